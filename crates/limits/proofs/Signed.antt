@@ -1,0 +1,33 @@
+-- Signed numbers as a function sees them: a number in a local is the number, and its magnitude is reached by turning the sign.
+use mathlib.Core.Path.{_≡_, refl, sym, ap, _∙_, subst}
+use mathlib.Core.Bool.{Bool, true, false}
+use Prim.Native.Nat.{ℕ, zero, suc, _+_, _<_, _≤_, _^_}
+use native.Mathlib.Omega.{arith}
+use lib.Dec.{T}
+use lib.IntN.{ℤ, pos, negsuc, _-ℤ_, natAbs}
+use lib.Signed.{mag, ltZ, nonNeg}
+use borrow.Author.Tests.{ltb-true}
+use mir.Syntax.{w16, w32, w64}
+use mir.Val.{SFits, toZ, ofZ}
+use mir.Facts.{toZ-ofZ, sfits-widen}
+
+-- a number of 32 bits, read back after it was widened to 64
+pub widened : {z : ℤ} → SFits w32 z → toZ w64 (ofZ w64 (toZ w32 (ofZ w32 z))) ≡ z
+widened f = rw (toZ-ofZ f, toZ-ofZ (sfits-widen tt f))
+
+-- a number below 0, its sign turned
+pub turned : (z : ℤ) → ltZ z (pos 0) ≡ true → pos 0 -ℤ z ≡ pos (natAbs z)
+turned (pos n) e = absurd (omega (arith, ltb-true n 0 e))
+turned (negsuc n) e = ap pos (omega arith)
+
+pub turned-fits : (z : ℤ) → ltZ z (pos 0) ≡ true → SFits w32 z → SFits w64 (pos 0 -ℤ z)
+turned-fits (pos n) e f = absurd (omega (arith, ltb-true n 0 e))
+turned-fits (negsuc n) e f = let b = f .sfits in record { sfits = omega arith }
+
+pub not-below : (z : ℤ) → ltZ z (pos 0) ≡ false → T (nonNeg z)
+not-below (pos n) e = tt
+not-below (negsuc n) e = subst T e tt
+
+-- an element of a slice of 16-bit numbers, as it is read: `c .x .given` of a copy `let x = s[i]`
+pub element : (z : ℤ) → mag z < 2 ^ 15 → toZ w16 (ofZ w16 z) ≡ z
+element z h = toZ-ofZ (record { sfits = h })

@@ -1,0 +1,65 @@
+// What every call shares: the limits that document 01 sets, as tests, and laying numbers over the front of a slice.
+ghost use mathlib.Core.Path.{_≡_};
+ghost use Prim.Native.Nat.{_≤_};
+ghost use lib.IntN.{natAbs};
+ghost use lib.ListN.{length};
+ghost use Rattle.limits.specs.Limits.{beyond, outsideBand, outsideSlots};
+ghost use Rattle.limits.specs.Answers.{laid};
+
+// The limit of setpoints, rest values and term values, in hundredths either way.
+pub const VALUE_LIMIT: u32 = 20000;
+
+// The limit of a number that is written out, in hundredths either way.
+pub const WRITTEN_LIMIT: u32 = 40000;
+
+// A number without its sign. In 64 bits the sign of the least number can be turned too.
+pub fn magnitude(number: i32) -> u32
+    ensures { λ r. ⌜ r ≡ natAbs number ⌝ }
+{
+    let wide = number as i64;
+    if wide < 0 {
+        (0 - wide) as u32
+    } else {
+        wide as u32
+    }
+}
+
+// Whether a number lies beyond ±limit.
+pub fn is_beyond(limit: u32, number: i32) -> bool
+    ensures { λ r. ⌜ r ≡ beyond limit number ⌝ }
+{
+    limit < magnitude(number)
+}
+
+// Whether a number is no band: below 0 or above 40,000.
+pub fn is_outside_band(band: i32) -> bool
+    ensures { λ r. ⌜ r ≡ outsideBand band ⌝ }
+{
+    if band < 0 {
+        return true;
+    }
+    40000 < band
+}
+
+// Whether a number of slots is none of a profile: 0 or more than 512.
+pub fn is_outside_slots(slots: usize) -> bool
+    ensures { λ r. ⌜ r ≡ outsideSlots slots ⌝ }
+{
+    if slots == 0 {
+        return true;
+    }
+    512 < slots
+}
+
+// Lays the numbers of `source` over the front of `destination`.
+pub fn lay(source: &[i16], destination: &mut [i16])
+    requires { ⌜ length (now source) ≤ length (now destination) ⌝ }
+    ensures { λ _. ⌜ now (destination .exit) ≡ laid (now (source .entry)) (now (destination .entry)) ⌝ }
+{
+    let mut i = 0;
+    while i < source.len() {
+        let number = source[i];
+        destination[i] = number;
+        i += 1;
+    }
+}
