@@ -63,3 +63,15 @@ pub fn lay(source: &[i16], destination: &mut [i16])
         i += 1;
     }
 }
+
+// The same for bytes.
+pub fn lay_bytes(source: &[u8], destination: &mut [u8])
+    requires { ⌜ length (now source) ≤ length (now destination) ⌝ }
+    ensures { λ _. ⌜ now (destination .exit) ≡ laid (now (source .entry)) (now (destination .entry)) ⌝ }
+{
+    let mut i = 0;
+    while i < source.len() {
+        destination[i] = source[i];
+        i += 1;
+    }
+}

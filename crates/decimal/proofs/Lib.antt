@@ -1,0 +1,3 @@
+pub mod Fields
+pub mod RoundTrip
+pub mod Texts
