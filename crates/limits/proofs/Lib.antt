@@ -1,2 +1,4 @@
 pub mod Laying
+pub mod Parts
+pub mod Refusals
 pub mod Signed

@@ -31,3 +31,8 @@ not-below (negsuc n) e = subst T e tt
 -- an element of a slice of 16-bit numbers, as it is read: `c .x .given` of a copy `let x = s[i]`
 pub element : (z : ℤ) → mag z < 2 ^ 15 → toZ w16 (ofZ w16 z) ≡ z
 element z h = toZ-ofZ (record { sfits = h })
+
+-- a value within ±20,000 fits 16 bits
+pub within-fits : (z : ℤ) → natAbs z ≤ 20000 → SFits w16 z
+within-fits (pos n) small = record { sfits = omega arith }
+within-fits (negsuc n) small = record { sfits = omega arith }

@@ -4,9 +4,9 @@ use mathlib.Core.List.{List}
 use mathlib.Core.Option.{Option, none, some}
 use Prim.Native.Nat.{ℕ, _+_, _*_, _-_, _≤_}
 use native.Mathlib.Omega.{arith}
-use lib.ListN.{length, take, drop, length-drop}
-use lib.Seq.{take-all}
+use lib.ListN.{length, take, drop}
 use borrow.Author.Tests.{eq-eqb, ne-eqb}
+use Rattle.limits.proofs.Parts.{to-end}
 use Rattle.decimal.specs.Number.{unsigned, fraction, added}
 use Rattle.decimal.specs.Inner.{UnitsRead, UnsignedRead}
 use Rattle.decimal.proofs.Fields.{refused, accepted, meant-none, meant-some, passed-on}
@@ -18,16 +18,12 @@ module _ (field : List ℕ) (count units : ℕ) (read : UnitsRead field count un
   no-units : count ≡ 0 → unsigned field ≡ none
   no-units zero-count = rw (eq-eqb _ 0 (sym (read .count-is) ∙ zero-count))
 
-  -- the field from the units on, as the part that is lent
-  rest-is : take (length field - count) (drop count field) ≡ drop count field
-  rest-is = take-all (length field - count) (drop count field) (simp length-drop (omega arith))
-
   units-and-rest : (count ≡ 0 → ⊥) → unsigned field ≡ added (100 * units) (fraction (drop count field))
   units-and-rest some-units = rw (ne-eqb _ 0 (λ zero-count. some-units (read .count-is ∙ zero-count)), ← read .count-is, ← read .units-is)
 
   module _ (refusal number : ℕ) (part : UnsignedRead (fraction (take (length field - count) (drop count field))) 99 refusal number) (some-units : count ≡ 0 → ⊥) where
     part-read : UnsignedRead (fraction (drop count field)) 99 refusal number
-    part-read = rw rest-is at part
+    part-read = rw (to-end count field) at part
 
     refused-part : refusal ≡ 1 → UnsignedRead (unsigned field) 99999 refusal number
     refused-part is-one =
