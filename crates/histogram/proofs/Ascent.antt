@@ -1,0 +1,66 @@
+-- What a valid list says of its nodes: the first is above the bound, the others are above it, and a node at or below the bound has no term.
+use mathlib.Core.Path.{_≡_, refl}
+use mathlib.Core.Bool.{not}
+use mathlib.Core.List.{List, [], _∷_}
+use Prim.Native.Nat.{ℕ, zero, suc, _<_, _≤_}
+use native.Mathlib.Omega.{arith}
+use lib.Dec.{T, ltb, ltb→lt, lt→ltb}
+use lib.IntN.{ℤ}
+use lib.ListN.{length, getD}
+use borrow.Author.Tests.{ne-eqb}
+use Rattle.limits.specs.Limits.{beyond}
+use Rattle.histogram.specs.declared.Term.{Term}
+use Rattle.histogram.specs.Terms.{paired, validFrom, termOr}
+use Rattle.histogram.specs.Inner.{Ascending}
+use Rattle.histogram.proofs.Conjunction.{first-of, second-of, both-of}
+
+-- the test as a statement, from which the bounds and the list can be inferred
+pub record ValidFrom (last end : ℕ) (terms : List Term) : Type 0 where
+  pub passes : T (validFrom last end terms)
+
+module _ {last end : ℕ} {term : Term} {terms : List Term} (valid : ValidFrom last end (term ∷ terms)) where
+  pub first-above : last < term .node
+  unfolding validFrom
+  first-above = ltb→lt last (term .node) (first-of (ltb last (term .node)) _ (valid .passes))
+
+  pub rest-valid : ValidFrom (term .node) end terms
+  unfolding validFrom
+  rest-valid = record {
+    passes = second-of (not (beyond 20000 (term .value))) _ (second-of (ltb (term .node) end) _ (second-of (ltb last (term .node)) _ (valid .passes)));
+  }
+
+  -- the same list is valid above any bound below its first node
+  pub valid-above : (bound : ℕ) → bound < term .node → ValidFrom bound end (term ∷ terms)
+  unfolding validFrom
+  valid-above bound below = record {
+    passes = both-of (ltb bound (term .node)) _ (lt→ltb bound (term .node) below) (second-of (ltb last (term .node)) _ (valid .passes));
+  }
+
+pub no-term : {last end : ℕ} (terms : List Term) → ValidFrom last end terms → (otherwise : ℤ) (node : ℕ) → node ≤ last → termOr otherwise terms node ≡ otherwise
+unfolding termOr
+no-term [] valid otherwise node low = refl
+no-term (term ∷ terms) valid otherwise node low =
+    let above = first-above valid in
+    rw (ne-eqb (term .node) node (λ same. omega arith)) (no-term terms (rest-valid valid) otherwise node (omega arith))
+
+-- every node is above the bound
+pub node-above : {last end : ℕ} (nodes : List ℕ) (values : List ℤ) → length nodes ≡ length values → ValidFrom last end (paired nodes values)
+    → (q : ℕ) → q < length nodes → last < getD nodes q 0
+unfolding paired
+node-above [] values same valid q within = absurd (omega arith)
+node-above (node ∷ nodes) [] same valid q within = absurd (omega arith)
+node-above (node ∷ nodes) (value ∷ values) same valid zero within = first-above valid
+node-above (node ∷ nodes) (value ∷ values) same valid (suc q) within =
+    omega (arith, first-above valid, node-above nodes values (omega arith) (rest-valid valid) q (omega arith))
+
+-- a valid list's nodes ascend strictly
+pub ascends : {last end : ℕ} (nodes : List ℕ) (values : List ℤ) → length nodes ≡ length values → ValidFrom last end (paired nodes values) → Ascending nodes
+unfolding paired
+ascends [] values same valid = record { each = λ p q less within. absurd (omega arith) }
+ascends (node ∷ nodes) [] same valid = absurd (omega arith)
+ascends (node ∷ nodes) (value ∷ values) same valid = record { each = pairwise (ascends nodes values (omega arith) (rest-valid valid)) }
+  where
+    pairwise : Ascending nodes → (p q : ℕ) → p < q → q < suc (length nodes) → getD (node ∷ nodes) p 0 < getD (node ∷ nodes) q 0
+    pairwise after p zero less within = absurd (omega arith)
+    pairwise after zero (suc q) less within = node-above nodes values (omega arith) (rest-valid valid) q (omega arith)
+    pairwise after (suc p) (suc q) less within = after .each p q (omega arith) (omega arith)

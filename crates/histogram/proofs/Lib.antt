@@ -1,0 +1,13 @@
+pub mod Above
+pub mod Ascent
+pub mod Conjunction
+pub mod Counted
+pub mod Expected
+pub mod Handing
+pub mod Lookup
+pub mod Order
+pub mod Paired
+pub mod Powers
+pub mod Refusals
+pub mod Signed
+pub mod Table

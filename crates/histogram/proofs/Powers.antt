@@ -1,0 +1,80 @@
+-- Laws beside the tree's definitions: `height n` is the least h with n ≤ 2 ^ h, and `levelOf i` the one e with 2 ^ e ≤ i < 2 ^ (e + 1).
+-- Both go by induction on the number: one more is still within the power before it, or doubles it.
+use mathlib.Core.Path.{_≡_, refl}
+use mathlib.Core.Bool.{Bool, true, false, cond}
+use mathlib.Core.Logic.{_⊎_, inl, inr, ⊎-elim}
+use Prim.Native.Nat.{ℕ, zero, suc, _/_, _^_, _≤_, _<_}
+use native.Mathlib.Omega.{arith}
+use lib.Dec.{leb}
+use lib.Pow.{pow-pos, pow-mono}
+use borrow.Author.Tests.{leb-true, leb-false, le-ltb}
+use Rattle.histogram.specs.Tree.{height, padded, IsLevel, levelOf, levelAnswer}
+use Rattle.histogram.proofs.Order.{below-or-not}
+
+pub height-reaches : (n : ℕ) → n ≤ 2 ^ height n
+unfolding height
+height-reaches zero = omega arith
+height-reaches (suc n) = split (leb (suc n) (2 ^ height n)) refl (height-reaches n)
+  where
+    split : (test : Bool) → leb (suc n) (2 ^ height n) ≡ test → n ≤ 2 ^ height n → suc n ≤ 2 ^ cond test (height n) (suc (height n))
+    split true answer before = leb-true (suc n) (2 ^ height n) answer
+    split false answer before = let doubled : suc n ≤ 2 ^ suc (height n) = omega (arith, pow-pos (height n)) in doubled
+
+-- no smaller power will do
+pub height-least : (n k : ℕ) → n ≤ 2 ^ k → height n ≤ k
+unfolding height
+height-least zero k within = omega arith
+height-least (suc n) k within = split (leb (suc n) (2 ^ height n)) refl (height-least n k (omega arith))
+  where
+    higher : 2 ^ height n < suc n → (height n < k) ⊎ (k ≤ height n) → suc (height n) ≤ k
+    higher past (inl less) = less
+    higher past (inr more) = absurd (omega (arith, pow-mono more))
+
+    split : (test : Bool) → leb (suc n) (2 ^ height n) ≡ test → height n ≤ k → cond test (height n) (suc (height n)) ≤ k
+    split true answer before = before
+    split false answer before = higher (leb-false (suc n) (2 ^ height n) answer) (below-or-not (height n) k)
+
+pub level-rule : (i : ℕ) → 1 ≤ i → IsLevel i (levelOf i)
+unfolding levelOf
+level-rule zero from-one = absurd (omega arith)
+level-rule (suc zero) from-one = record { reached = omega arith; next-not = omega arith }
+level-rule (suc (suc i)) from-one = split (leb (2 ^ suc (levelOf (suc i))) (suc (suc i))) refl (level-rule (suc i) (omega arith))
+  where
+    split : (test : Bool) → leb (2 ^ suc (levelOf (suc i))) (suc (suc i)) ≡ test
+        → IsLevel (suc i) (levelOf (suc i)) → IsLevel (suc (suc i)) (cond test (suc (levelOf (suc i))) (levelOf (suc i)))
+    split true answer before = record { reached = leb-true _ _ answer; next-not = omega (arith, before .next-not) }
+    split false answer before = record { reached = omega (arith, before .reached); next-not = leb-false _ _ answer }
+
+-- of two levels of one node neither is the lower
+not-lower : {i e f : ℕ} → IsLevel i e → IsLevel i f → e < f → ⊥
+not-lower one other less = omega (arith, one .next-not, other .reached, pow-mono less)
+
+pub level-only : {i e f : ℕ} → IsLevel i e → IsLevel i f → e ≡ f
+level-only {i} {e} {f} one other =
+    ⊎-elim
+    (λ less. absurd (not-lower one other less))
+    (λ not-less. ⊎-elim (λ more. absurd (not-lower other one more)) (λ not-more. omega arith) (below-or-not f e))
+    (below-or-not e f)
+
+-- the node above stands one level higher
+pub level-half : (i : ℕ) → 2 ≤ i → levelOf i ≡ suc (levelOf (i / 2))
+level-half i from-two =
+    let above = level-rule (i / 2) (omega arith) in
+    level-only (level-rule i (omega arith)) (record { reached = omega (arith, above .reached); next-not = omega (arith, above .next-not) })
+
+pub height-bound : {n : ℕ} → n ≤ 512 → height n ≤ 9
+height-bound few = height-least _ 9 few
+
+pub padded-bound : {n : ℕ} → n ≤ 512 → padded n ≤ 512
+padded-bound few = pow-mono (height-bound few)
+
+pub level-bound : {node : ℕ} → 1 ≤ node → node ≤ 1023 → levelOf node ≤ 9
+level-bound {node} from-one in-table =
+    let level = level-rule node from-one in
+    ⊎-elim
+    (λ less. omega arith)
+    (λ more. absurd (omega (arith, level .reached, pow-mono {i = 10} more)))
+    (below-or-not (levelOf node) 10)
+
+pub level-in-table : {node : ℕ} → node ≤ 1023 → levelAnswer node ≡ levelOf node
+level-in-table {node} in-table = rw (le-ltb 1023 node in-table)

@@ -1,0 +1,6 @@
+pub mod Tree
+pub mod Terms
+pub mod Restored
+pub mod Errors
+pub mod Restoring
+pub mod Inner
