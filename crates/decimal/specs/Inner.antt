@@ -4,10 +4,17 @@ use mathlib.Core.Bool.{true, false}
 use mathlib.Core.List.{List, _++_}
 use mathlib.Core.Option.{Option}
 use Prim.Native.Nat.{ℕ, _+_, _≤_, _<_}
-use lib.ListN.{length, take}
+use lib.IntN.{pos}
+use lib.ListN.{length, take, drop}
 use Rattle.limits.specs.Answers.{_when_}
-use Rattle.decimal.specs.Number.{isDigit, digit, leadingDigits, decimal}
+use Rattle.decimal.specs.Number.{isDigit, digit, leadingDigits, decimal, unsigned, signed, negated, readsAs}
 use Rattle.decimal.specs.Answers.{isNone, numberOr}
+
+-- how many bytes the sign takes, and what the field reads as by those that follow
+pub record SignRead (field : List ℕ) (width : ℕ) : Type 0 where
+  pub in-field : width ≤ length field
+  pub minus : width ≡ 1 → readsAs field ≡ signed negated (unsigned (drop width field))
+  pub no-minus : (width ≡ 1 → ⊥) → readsAs field ≡ signed pos (unsigned (drop width field))
 
 -- the first digits of a field, three at the most: how many, and the number they write
 pub record UnitsRead (field : List ℕ) (count units : ℕ) : Type 0 where

@@ -3,7 +3,7 @@ ghost use mathlib.Core.Path.{_≡_};
 ghost use mathlib.Core.List.{[], _∷_};
 ghost use Rattle.decimal.specs.Number.{isMark, unsigned, fraction, hundredths};
 ghost use Rattle.decimal.specs.Answers.{NumberRead};
-ghost use Rattle.decimal.specs.Inner.{UnitsRead, UnsignedRead, DigitRead};
+ghost use Rattle.decimal.specs.Inner.{SignRead, UnitsRead, UnsignedRead, DigitRead};
 
 // A number that was read, or the refusal 1 with 0.
 pub struct NumberAnswer {
@@ -27,24 +27,31 @@ struct Units {
 pub fn read_number(field: &[u8]) -> NumberAnswer
     ensures { λ r. ⌜ NumberRead (now (field .entry)) (r .refusal) (r .number) ⌝ }
 {
-    if field.len() == 0 {
+    let sign = sign_width(field);
+    let unsigned = read_unsigned(&field[sign..]);
+    if sign == 1 {
         return NumberAnswer {
-            refusal: 1,
-            number: 0,
+            refusal: unsigned.refusal,
+            number: 0 - (unsigned.number as i32),
         };
+    }
+    NumberAnswer {
+        refusal: unsigned.refusal,
+        number: unsigned.number as i32,
+    }
+}
+
+// How many bytes the sign takes: 1 for a minus, and else 0.
+fn sign_width(field: &[u8]) -> usize
+    ensures { λ r. ⌜ SignRead (now (field .entry)) r ⌝ }
+{
+    if field.len() == 0 {
+        return 0;
     }
     if field[0] == b'-' {
-        let negated = read_unsigned(&field[1..]);
-        return NumberAnswer {
-            refusal: negated.refusal,
-            number: 0 - (negated.number as i32),
-        };
+        return 1;
     }
-    let plain = read_unsigned(field);
-    NumberAnswer {
-        refusal: plain.refusal,
-        number: plain.number as i32,
-    }
+    0
 }
 
 fn read_unsigned(field: &[u8]) -> Unsigned
@@ -141,17 +148,11 @@ fn read_hundredths(tenths: u8, rest: u8) -> Unsigned
     }
 }
 
-// The number that a digit stands for, and 10 for any other byte.
+// The number that a digit stands for, and 10 or more for any other byte: those below `0` wrap to large numbers.
 fn digit_of(byte: u8) -> u32
     ensures { λ r. ⌜ DigitRead byte r ⌝ }
 {
-    if byte < b'0' {
-        return 10;
-    }
-    if b'9' < byte {
-        return 10;
-    }
-    (byte - b'0') as u32
+    std::num::wrapping_sub_u8(byte, b'0') as u32
 }
 
 fn is_mark(byte: u8) -> bool
