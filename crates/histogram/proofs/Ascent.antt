@@ -1,11 +1,11 @@
--- What a valid list says of its nodes: the first is above the bound, the others are above it, and a node at or below the bound has no term.
+-- What a valid list says of its terms: the first lies between the bounds and within ±20,000, the others are above it, and a node at or below the bound has no term.
 use mathlib.Core.Path.{_≡_, refl}
 use mathlib.Core.Bool.{not}
 use mathlib.Core.List.{List, [], _∷_}
 use Prim.Native.Nat.{ℕ, zero, suc, _<_, _≤_}
 use native.Mathlib.Omega.{arith}
-use lib.Dec.{T, ltb, ltb→lt, lt→ltb}
-use lib.IntN.{ℤ}
+use lib.Dec.{T, ltb, ltb→lt, lt→ltb, nltb→le}
+use lib.IntN.{ℤ, natAbs}
 use lib.ListN.{length, getD}
 use borrow.Author.Tests.{ne-eqb}
 use Rattle.limits.specs.Limits.{beyond}
@@ -22,6 +22,16 @@ module _ {last end : ℕ} {term : Term} {terms : List Term} (valid : ValidFrom l
   pub first-above : last < term .node
   unfolding validFrom
   first-above = ltb→lt last (term .node) (first-of (ltb last (term .node)) _ (valid .passes))
+
+  pub first-below : term .node < end
+  unfolding validFrom
+  first-below = ltb→lt (term .node) end (first-of (ltb (term .node) end) _ (second-of (ltb last (term .node)) _ (valid .passes)))
+
+  pub first-within : natAbs (term .value) ≤ 20000
+  unfolding validFrom
+  first-within =
+      nltb→le 20000 (natAbs (term .value))
+      (first-of (not (beyond 20000 (term .value))) _ (second-of (ltb (term .node) end) _ (second-of (ltb last (term .node)) _ (valid .passes))))
 
   pub rest-valid : ValidFrom (term .node) end terms
   unfolding validFrom

@@ -75,3 +75,16 @@ pub fn lay_bytes(source: &[u8], destination: &mut [u8])
         i += 1;
     }
 }
+
+// The same for the nodes of terms.
+pub fn lay_nodes(source: &[u16], destination: &mut [u16])
+    requires { ⌜ length (now source) ≤ length (now destination) ⌝ }
+    ensures { λ _. ⌜ now (destination .exit) ≡ laid (now (source .entry)) (now (destination .entry)) ⌝ }
+{
+    let mut i = 0;
+    while i < source.len() {
+        let node = source[i];
+        destination[i] = node;
+        i += 1;
+    }
+}

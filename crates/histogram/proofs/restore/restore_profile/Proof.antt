@@ -1,5 +1,5 @@
 -- `histogram::restore::restore_profile` meets its contract: the values handed down to nodes m to m + n - 1 are the setpoints restored in the n slots.
-use mathlib.Core.Path.{_≡_, refl, ap, _∙_}
+use mathlib.Core.Path.{_≡_, refl, sym, ap, _∙_}
 use mathlib.Core.List.{List, []}
 use Prim.Native.Nat.{ℕ, _+_, _-_, _*_, _≤_, _<_}
 use native.Mathlib.Omega.{arith}
@@ -18,7 +18,8 @@ use Rattle.histogram.specs.Restoring.{synopsisRefusal}
 use Rattle.histogram.specs.Inner.{HandedDown}
 use Rattle.histogram.proofs.Counted.{counted-part}
 use Rattle.histogram.proofs.Powers.{height-reaches, padded-bound}
-use Rattle.histogram.proofs.Refusals.{first-counts, nothing-granted, Accepted, accepted}
+use Rattle.limits.proofs.Refusals.{first-counts, granted-nothing}
+use Rattle.histogram.proofs.Refusals.{Accepted, accepted}
 use Rattle.histogram.proofs.Signed.{narrower, narrower-fits}
 use Rattle.histogram.proofs.restore.restore_profile.Statement.{statement}
 use Rattle.histogram.proofs.restore.restore_profile.Tie as tie
@@ -36,8 +37,8 @@ returns c =
     let args = c .before .before .before .args in
     let before = args .setpoints .now in
     record {
-      refusal-is = first-counts _ (6 when ltb (length before) (args .slots)) (refusal-answer (c .before)) (c .if1 .taken);
-      destination-is = ap (λ (written : List ℤ). laid written before) (nothing-granted (c .before .refuse-synopsis .result) _ [] (c .if1 .taken));
+      refusal-is = sym (rw (← refusal-answer (c .before)) (first-counts (c .before .refuse-synopsis .result) _ (c .if1 .taken)));
+      destination-is = ap (λ (written : List ℤ). laid written before) (sym (granted-nothing (c .before .refuse-synopsis .result) _ [] (c .if1 .taken)));
     }
 
 accepted-here : (c : tie.Else1) → let args = c .before .before .before .args in Accepted (args .slots) (args .rest) (paired (args .nodes .now) (args .values .now))

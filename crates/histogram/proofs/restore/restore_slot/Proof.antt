@@ -1,5 +1,5 @@
 -- `histogram::restore::restore_slot` meets its contract: a synopsis that is not refused has few slots and a small rest value, so that the casts keep both.
-use mathlib.Core.Path.{_≡_, refl, _∙_}
+use mathlib.Core.Path.{_≡_, refl, sym, _∙_}
 use Prim.Native.Nat.{_+_, _≤_}
 use native.Mathlib.Omega.{arith}
 use lib.Dec.{leb}
@@ -16,7 +16,8 @@ use Rattle.histogram.specs.Terms.{paired}
 use Rattle.histogram.specs.Restoring.{synopsisRefusal}
 use Rattle.histogram.proofs.Ascent.{ascends}
 use Rattle.histogram.proofs.Powers.{padded-bound}
-use Rattle.histogram.proofs.Refusals.{first-counts, nothing-granted, Accepted, accepted}
+use Rattle.limits.proofs.Refusals.{first-counts, granted-nothing}
+use Rattle.histogram.proofs.Refusals.{Accepted, accepted}
 use Rattle.histogram.proofs.Signed.{narrower, narrower-fits}
 use Rattle.histogram.proofs.restore.restore_slot.Statement.{statement}
 use Rattle.histogram.proofs.restore.restore_slot.Tie as tie
@@ -33,8 +34,8 @@ returns : tie.Need-returns
 returns c =
     let args = c .before .before .before .args in
     record {
-      refusal-is = first-counts _ (10 when leb (args .slots) (args .slot)) (refusal-answer (c .before)) (c .if1 .taken);
-      setpoint-is = nothing-granted (c .before .refuse-synopsis .result) _ (pos 0) (c .if1 .taken);
+      refusal-is = sym (rw (← refusal-answer (c .before)) (first-counts (c .before .refuse-synopsis .result) _ (c .if1 .taken)));
+      setpoint-is = sym (granted-nothing (c .before .refuse-synopsis .result) _ (pos 0) (c .if1 .taken));
     }
 
 accepted-here : (c : tie.Else1) → let args = c .before .before .before .args in Accepted (args .slots) (args .rest) (paired (args .nodes .now) (args .values .now))

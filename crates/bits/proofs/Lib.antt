@@ -1,0 +1,9 @@
+pub mod Numbers
+pub mod Fields
+pub mod Bytes
+pub mod Packing
+pub mod Complement
+pub mod Replacing
+pub mod Words
+pub mod Shifts
+pub mod Signs

@@ -1,0 +1,101 @@
+-- What the room and the header hold of a record that is not refused, and the answer for a destination.
+use mathlib.Core.Path.{_≡_, refl, sym, ap, _∙_}
+use mathlib.Core.List.{List, []}
+use Prim.Native.Nat.{ℕ, _≤_, _<_}
+use native.Mathlib.Omega.{arith}
+use lib.IntN.{ℤ, pos}
+use lib.ListN.{length, take, drop}
+use borrow.Author.Tests.{lt-ltb, le-ltb}
+use Rattle.limits.specs.Answers.{_when_, _then_, granted, laid}
+use Rattle.limits.proofs.Refusals.{first-counts, granted-nothing}
+use Rattle.bits.specs.Bits.{bitsOf}
+use Rattle.record.specs.Record.{slotsIn, bandIn, restIn, countIn, termsIn}
+use Rattle.record.specs.Answers.{headerRefusal, recordRefusal, nodesOf, valuesOf, RecordRead}
+use Rattle.record_read.specs.Inner.{RoomRead}
+use Rattle.record_read.proofs.Frames.{no-header}
+use Rattle.record_read.proofs.Rooms.{front-of, room-for}
+use Rattle.record_read.proofs.Terms.{nodes-long, values-long}
+
+-- no refusal among two is none of the first
+first-none : (first later : ℕ) → first then later ≡ 0 → first ≡ 0
+first-none Prim.Native.Nat.zero later none = refl
+first-none (Prim.Native.Nat.suc first) later none = absurd (omega arith)
+
+module _ (bytes : List ℕ) (refusal slots : ℕ) (band rest : ℤ) (count : ℕ) (nodes nodes′ : List ℕ) (values values′ : List ℤ)
+    (read : RoomRead bytes refusal slots band rest count nodes nodes′ values values′) where
+  pub refused-record : (target : List ℕ) (others : List ℤ) → 0 < refusal → RecordRead bytes refusal slots band rest count target target others others
+  refused-record target others wrong = record {
+    refusal-is = sym (rw (← read .refusal-is) (first-counts refusal _ wrong));
+    header = read .header;
+    nodes-are = sym (rw (granted-nothing refusal (nodesOf (termsIn bytes)) [] wrong));
+    values-are = sym (rw (granted-nothing refusal (valuesOf (termsIn bytes)) [] wrong));
+  }
+
+  module _ (right : refusal ≤ 0) where
+    none : refusal ≡ 0
+    none = omega arith
+
+    pub record-right : recordRefusal bytes ≡ 0
+    record-right = sym (read .refusal-is) ∙ none
+
+    header-right : headerRefusal bytes ≡ 0
+    header-right = first-none (headerRefusal bytes) _ record-right
+
+    pub count-is : count ≡ countIn bytes
+    count-is = rw none at (read .header .count-is)
+
+    pub slots-are : slots ≡ slotsIn bytes
+    slots-are = rw none at (read .header .slots-is)
+
+    pub rest-is : rest ≡ restIn bytes
+    rest-is = rw none at (read .header .rest-is)
+
+    pub band-is : band ≡ pos (bandIn bytes)
+    band-is = rw none at (read .header .band-is)
+
+    nodes-in-room : nodes′ ≡ laid (nodesOf (termsIn bytes)) nodes
+    nodes-in-room = read .nodes-are ∙ rw header-right
+
+    values-in-room : values′ ≡ laid (valuesOf (termsIn bytes)) values
+    values-in-room = read .values-are ∙ rw header-right
+
+    long-nodes : length (nodesOf (termsIn bytes)) ≡ count
+    long-nodes = nodes-long (countIn bytes) (drop 55 (bitsOf bytes)) ∙ sym count-is
+
+    long-values : length (valuesOf (termsIn bytes)) ≡ count
+    long-values = values-long (countIn bytes) (drop 55 (bitsOf bytes)) ∙ sym count-is
+
+    pub room-nodes : take count nodes′ ≡ nodesOf (termsIn bytes)
+    room-nodes = rw nodes-in-room (front-of (nodesOf (termsIn bytes)) nodes count long-nodes)
+
+    pub room-values : take count values′ ≡ valuesOf (termsIn bytes)
+    room-values = rw values-in-room (front-of (valuesOf (termsIn bytes)) values count long-values)
+
+    pub in-nodes : count ≤ length nodes′
+    in-nodes = rw nodes-in-room (omega (arith, room-for (nodesOf (termsIn bytes)) nodes, long-nodes))
+
+    pub in-values : count ≤ length values′
+    in-values = rw values-in-room (omega (arith, room-for (valuesOf (termsIn bytes)) values, long-values))
+
+    pub nodes-counted : length (take count nodes′) ≡ count
+    nodes-counted = ap length room-nodes ∙ long-nodes
+
+    pub values-counted : length (take count values′) ≡ count
+    values-counted = ap length room-values ∙ long-values
+
+    pub too-short : (target : List ℕ) (others : List ℤ) → length target < count → RecordRead bytes 6 0 (pos 0) (pos 0) 0 target target others others
+    too-short target others short = record {
+      refusal-is = rw (record-right, lt-ltb (length target) (countIn bytes) (omega (arith, count-is)));
+      header = no-header bytes 6 (omega arith);
+      nodes-are = refl;
+      values-are = refl;
+    }
+
+    pub all-laid : (target target′ : List ℕ) (others others′ : List ℤ) → count ≤ length target → target′ ≡ laid (take count nodes′) target → others′ ≡ laid (take count values′) others
+        → RecordRead bytes refusal slots band rest count target target′ others others′
+    all-laid target target′ others others′ fits nodes-is values-is = record {
+      refusal-is = none ∙ rw (record-right, le-ltb (length target) (countIn bytes) (omega (arith, count-is)));
+      header = read .header;
+      nodes-are = nodes-is ∙ rw (room-nodes, none);
+      values-are = values-is ∙ rw (room-values, none);
+    }

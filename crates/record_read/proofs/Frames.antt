@@ -1,0 +1,66 @@
+-- The frame of a record: which bytes are none of row 7, and the header's refusals after it.
+use mathlib.Core.Path.{_≡_, refl, sym, ap, _∙_}
+use mathlib.Core.Bool.{Bool, true, false, not, _&&_, and-false, false≢true}
+use mathlib.Core.List.{List}
+use Prim.Native.Nat.{ℕ, zero, suc, _+_, _*_, _≤_, _<_}
+use native.Mathlib.Omega.{arith}
+use lib.Dec.{leb, ltb, eqb}
+use lib.IntN.{ℤ, pos, negsuc}
+use lib.ListN.{length}
+use borrow.Author.Tests.{le-leb, lt-leb, eq-eqb, ne-eqb}
+use Rattle.limits.specs.Answers.{_when_, _then_, granted}
+use Rattle.limits.specs.Limits.{beyond, outsideBand}
+use Rattle.record.specs.Record.{recordLength, versionIn, slotsIn, bandIn, restIn, countIn, fillIn, wellFormed}
+use Rattle.record.specs.Answers.{headerRefusal, HeaderOf}
+use Rattle.record_read.specs.Inner.{FrameRead, fieldsRefusal, FieldsRead, HeaderRead}
+
+module _ (bytes : List ℕ) where
+  not-right : wellFormed bytes ≡ false → FrameRead bytes false 0
+  not-right wrong = record { right-is = sym wrong; count-is = λ impossible. absurd (false≢true impossible) }
+
+  pub too-short : length bytes < 7 → FrameRead bytes false 0
+  too-short short = not-right (rw (lt-leb 7 (length bytes) short))
+
+  module _ (enough : 7 ≤ length bytes) where
+    pub wrong-version : (versionIn bytes ≡ 1 → ⊥) → FrameRead bytes false 0
+    wrong-version other = not-right (rw (le-leb 7 (length bytes) enough, ne-eqb (versionIn bytes) 1 other))
+
+    pub wrong-byte-count : (length bytes ≡ recordLength (countIn bytes) → ⊥) → FrameRead bytes false 0
+    wrong-byte-count other =
+        not-right (rw (le-leb 7 (length bytes) enough, ne-eqb (length bytes) (recordLength (countIn bytes)) other) (and-false (eqb (versionIn bytes) 1)))
+
+    pub by-fill : (fill count : ℕ) → versionIn bytes ≡ 1 → count ≡ countIn bytes → length bytes ≡ recordLength count → fill ≡ fillIn bytes
+        → FrameRead bytes (eqb fill 0) count
+    by-fill fill count version count-same long fill-same = record {
+      right-is =
+          ap (λ (number : ℕ). eqb number 0) fill-same
+          ∙ sym (rw (le-leb 7 (length bytes) enough, eq-eqb (versionIn bytes) 1 version, eq-eqb (length bytes) (recordLength (countIn bytes)) (long ∙ ap recordLength count-same)));
+      count-is = λ _. count-same;
+    }
+
+  module _ (right : wellFormed bytes ≡ true) where
+    pub header-of-fields : (refusal slots : ℕ) (band rest : ℤ) (count : ℕ) → FieldsRead bytes (countIn bytes) refusal slots band rest count
+        → HeaderRead bytes refusal slots band rest count
+    header-of-fields refusal slots band rest count fields = record {
+      refusal-is = rw right (fields .refusal-is);
+      header = record { slots-is = fields .slots-is; band-is = fields .band-is; rest-is = fields .rest-is; count-is = fields .count-is };
+    }
+
+  pub no-header : (refusal : ℕ) → 0 < refusal → HeaderOf bytes refusal 0 (pos 0) (pos 0) 0
+  no-header zero wrong = absurd (omega arith)
+  no-header (suc refusal) wrong = record { slots-is = refl; band-is = refl; rest-is = refl; count-is = refl }
+
+  pub malformed : wellFormed bytes ≡ false → HeaderRead bytes 7 0 (pos 0) (pos 0) 0
+  malformed wrong = record { refusal-is = rw wrong; header = no-header 7 (omega arith) }
+
+  -- the header's fields, by the two tests of their numbers
+  module _ (known : ℕ) where
+    pub rest-wrong : beyond 20000 (restIn bytes) ≡ true → FieldsRead bytes known 2 0 (pos 0) (pos 0) 0
+    rest-wrong far = record { refusal-is = rw far; slots-is = refl; band-is = refl; rest-is = refl; count-is = refl }
+
+    module _ (near : beyond 20000 (restIn bytes) ≡ false) where
+      pub band-wrong : outsideBand (pos (bandIn bytes)) ≡ true → FieldsRead bytes known 3 0 (pos 0) (pos 0) 0
+      band-wrong outside = record { refusal-is = rw (near, outside); slots-is = refl; band-is = refl; rest-is = refl; count-is = refl }
+
+      pub fields-right : outsideBand (pos (bandIn bytes)) ≡ false → FieldsRead bytes known 0 (slotsIn bytes) (pos (bandIn bytes)) (restIn bytes) known
+      fields-right inside = record { refusal-is = rw (near, inside); slots-is = refl; band-is = refl; rest-is = refl; count-is = refl }

@@ -1,0 +1,4 @@
+pub mod Accepted
+pub mod Frames
+pub mod Rooms
+pub mod Terms

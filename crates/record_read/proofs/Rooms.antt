@@ -1,0 +1,106 @@
+-- A record read into room: its header's refusal, that of its terms, or none.
+use mathlib.Core.Path.{_≡_, refl, sym, ap, ap₂, _∙_}
+use mathlib.Core.Bool.{Bool, true, false, not}
+use mathlib.Core.List.{List, [], _∷_}
+use Prim.Native.Nat.{ℕ, _+_, _*_, _≤_, _<_}
+use native.Mathlib.Omega.{arith}
+use lib.Dec.{ltb}
+use lib.IntN.{ℤ, pos}
+use lib.ListN.{length, take, drop, length-append}
+use lib.Seq.{take-at}
+use borrow.Author.Tests.{not-false}
+use Rattle.limits.specs.Answers.{_when_, _then_, granted, laid}
+use Rattle.limits.specs.Limits.{beyond}
+use Rattle.limits.proofs.Refusals.{first-counts, granted-nothing, passed}
+use Rattle.bits.specs.Bits.{bitsOf}
+use Rattle.bits.proofs.Bytes.{field-below}
+use Rattle.histogram.specs.declared.Term.{Term}
+use Rattle.histogram.specs.Tree.{padded}
+use Rattle.histogram.specs.Terms.{paired, validFrom, valid}
+use Rattle.record.specs.Record.{recordLength, slotsIn, bandIn, restIn, countIn, termsFrom, termsIn, wellFormed}
+use Rattle.record.specs.Answers.{headerRefusal, recordRefusal, nodesOf, valuesOf, HeaderOf}
+use Rattle.record.proofs.RoundTrips.{well-formed-parts}
+use Rattle.record_read.specs.Inner.{Framed, HeaderRead, TermsRead, RoomRead}
+use Rattle.record_read.proofs.Frames.{no-header}
+use Rattle.record_read.proofs.Terms.{nodes-long, values-long}
+
+pub paired-again : (terms : List Term) → paired (nodesOf terms) (valuesOf terms) ≡ terms
+unfolding paired
+paired-again [] = refl
+paired-again (term ∷ terms) = ap (λ (l : List Term). term ∷ l) (paired-again terms)
+
+-- the front of a list over which another was laid
+pub front-of : {A : Type 0} (written before : List A) (count : ℕ) → length written ≡ count → take count (laid written before) ≡ written
+front-of written before count long = take-at written (drop (length written) before) count long
+
+pub room-for : {A : Type 0} (written before : List A) → length written ≤ length (laid written before)
+room-for written before = simp length-append (omega arith)
+
+module _ (bytes : List ℕ) (refusal slots : ℕ) (band rest : ℤ) (count : ℕ) (read : HeaderRead bytes refusal slots band rest count) where
+  pub header-wrong : (nodes : List ℕ) (values : List ℤ) → 0 < refusal → RoomRead bytes refusal slots band rest count nodes nodes values values
+  header-wrong nodes values wrong = record {
+    refusal-is = sym (rw (← read .refusal-is) (first-counts refusal _ wrong));
+    header = read .header;
+    nodes-are = sym (rw (← read .refusal-is, granted-nothing refusal (nodesOf (termsIn bytes)) [] wrong));
+    values-are = sym (rw (← read .refusal-is, granted-nothing refusal (valuesOf (termsIn bytes)) [] wrong));
+  }
+
+  module _ (right : refusal ≤ 0) where
+    none : refusal ≡ 0
+    none = omega arith
+
+    header-right : headerRefusal bytes ≡ 0
+    header-right = sym (read .refusal-is) ∙ none
+
+    well-formed : wellFormed bytes ≡ true
+    well-formed = not-false (wellFormed bytes) (passed 6 (not (wellFormed bytes)) (2 when beyond 20000 (restIn bytes) then 3 when ltb 40000 (bandIn bytes)) header-right .0)
+
+    pub count-is : count ≡ countIn bytes
+    count-is = rw none at (read .header .count-is)
+
+    pub slots-are : slots ≡ slotsIn bytes
+    slots-are = rw none at (read .header .slots-is)
+
+    pub framed : Framed bytes count
+    framed = record { few = omega (arith, count-is, field-below bytes 45 10); long = well-formed-parts bytes well-formed .2 ∙ ap recordLength (sym count-is) }
+
+    pub few-slots : slots ≤ 512
+    few-slots = omega (arith, slots-are, field-below bytes 4 9)
+
+    module _ (nodes nodes′ : List ℕ) (values values′ : List ℤ) (terms : TermsRead bytes count nodes nodes′ values values′) where
+      pub nodes-front : take count nodes′ ≡ nodesOf (termsFrom count (drop 55 (bitsOf bytes)))
+      nodes-front = rw (terms .nodes-are) (front-of (nodesOf (termsFrom count (drop 55 (bitsOf bytes)))) nodes count (nodes-long count (drop 55 (bitsOf bytes))))
+
+      pub values-front : take count values′ ≡ valuesOf (termsFrom count (drop 55 (bitsOf bytes)))
+      values-front = rw (terms .values-are) (front-of (valuesOf (termsFrom count (drop 55 (bitsOf bytes)))) values count (values-long count (drop 55 (bitsOf bytes))))
+
+      pub in-nodes : count ≤ length nodes′
+      in-nodes =
+          rw (terms .nodes-are)
+          (omega (arith, room-for (nodesOf (termsFrom count (drop 55 (bitsOf bytes)))) nodes, nodes-long count (drop 55 (bitsOf bytes))))
+
+      pub in-values : count ≤ length values′
+      in-values =
+          rw (terms .values-are)
+          (omega (arith, room-for (valuesOf (termsFrom count (drop 55 (bitsOf bytes)))) values, values-long count (drop 55 (bitsOf bytes))))
+
+      terms-same : termsFrom count (drop 55 (bitsOf bytes)) ≡ termsIn bytes
+      terms-same = ap (λ (k : ℕ). termsFrom k (drop 55 (bitsOf bytes))) count-is
+
+      -- what the test of the terms tests
+      pub tested : (end : ℕ) → end ≡ 2 * padded slots → validFrom 0 end (paired (take count nodes′) (take count values′)) ≡ valid (slotsIn bytes) (termsIn bytes)
+      tested end is =
+          rw (nodes-front, values-front, paired-again (termsFrom count (drop 55 (bitsOf bytes))), terms-same, is, slots-are)
+
+      nodes-in-room : nodes′ ≡ laid (granted (headerRefusal bytes) (nodesOf (termsIn bytes)) []) nodes
+      nodes-in-room = terms .nodes-are ∙ rw (header-right, terms-same)
+
+      values-in-room : values′ ≡ laid (granted (headerRefusal bytes) (valuesOf (termsIn bytes)) []) values
+      values-in-room = terms .values-are ∙ rw (header-right, terms-same)
+
+      pub terms-right : valid (slotsIn bytes) (termsIn bytes) ≡ true → RoomRead bytes refusal slots band rest count nodes nodes′ values values′
+      terms-right proper = record { refusal-is = none ∙ rw (header-right, proper); header = read .header; nodes-are = nodes-in-room; values-are = values-in-room }
+
+      pub terms-wrong : valid (slotsIn bytes) (termsIn bytes) ≡ false → RoomRead bytes 8 0 (pos 0) (pos 0) 0 nodes nodes′ values values′
+      terms-wrong improper =
+          record { refusal-is = rw (header-right, improper); header = no-header bytes 8 (omega arith); nodes-are = nodes-in-room; values-are = values-in-room }

@@ -1,0 +1,35 @@
+-- `record_read::read_fill` meets its contract: the field reaches to the last bit.
+use mathlib.Core.Path.{_≡_, ap, _∙_}
+use Prim.Native.Nat.{_+_, _*_, _-_}
+use native.Mathlib.Omega.{arith}
+use lib.ListN.{length, drop, length-drop}
+use lib.Seq.{take-all}
+use Rattle.bits.specs.Bits.{numberOf, bitsOf}
+use Rattle.bits.proofs.Bytes.{length-bits-of}
+use borrow.Author.Needs.{needs}
+use Rattle.record_read.proofs.read_fill.Statement.{statement}
+use Rattle.record_read.proofs.read_fill.Tie as tie
+
+mul-used : tie.Need-mul-used
+mul-used c = search needs
+
+add-used : tie.Need-add-used
+add-used c = search needs
+
+mul-read : tie.Need-mul-read
+mul-read c = search needs
+
+sub-read : tie.Need-sub-read
+sub-read c = search needs
+
+read-requires : tie.Need-read-requires
+read-requires c κs = search needs
+
+returns : tie.Need-returns
+returns c =
+    let bytes = c .before .before .args .bytes .now in
+    let used = 55 + 26 * c .before .before .args .count in
+    c .read .ensures ∙ ap numberOf (take-all (8 * length bytes - used) (drop used (bitsOf bytes)) (simp length-drop (omega (arith, length-bits-of bytes))))
+
+pub read-fill-spec : {M : Type 1} → statement M
+read-fill-spec = tie.close (tie.spec mul-used add-used mul-read sub-read read-requires returns)

@@ -1,0 +1,67 @@
+-- What inner functions ask and promise. A reader of the promises need not open this file.
+use mathlib.Core.Path.{_≡_}
+use mathlib.Core.Bool.{Bool, true}
+use mathlib.Core.List.{List, []}
+use Prim.Native.Nat.{ℕ, _+_, _*_, _≤_}
+use lib.Dec.{ltb}
+use lib.IntN.{ℤ, pos}
+use lib.ListN.{length, drop}
+use Rattle.limits.specs.Answers.{_when_, _then_, granted, laid}
+use Rattle.limits.specs.Limits.{beyond}
+use Rattle.bits.specs.Bits.{numberOf, bitsOf}
+use Rattle.record.specs.Record.{recordLength, slotsIn, bandIn, restIn, countIn, termsFrom, termsIn, wellFormed}
+use Rattle.record.specs.Answers.{headerRefusal, recordRefusal, HeaderOf, nodesOf, valuesOf}
+
+-- a record read into room for 1,023 terms, as the calls take it that have no destination to refuse; the room holds the terms where the header is not refused
+pub record RoomRead (bytes : List ℕ) (refusal slots : ℕ) (band rest : ℤ) (count : ℕ) (nodes nodes′ : List ℕ) (values values′ : List ℤ) : Type 0 where
+  pub refusal-is : refusal ≡ recordRefusal bytes
+  pub header : HeaderOf bytes refusal slots band rest count
+  pub nodes-are : nodes′ ≡ laid (granted (headerRefusal bytes) (nodesOf (termsIn bytes)) []) nodes
+  pub values-are : values′ ≡ laid (granted (headerRefusal bytes) (valuesOf (termsIn bytes)) []) values
+
+-- room for the nodes and the values of every record's terms
+pub record Room (nodes : List ℕ) (values : List ℤ) : Type 0 where
+  pub of-nodes : 1023 ≤ length nodes
+  pub of-values : 1023 ≤ length values
+
+-- whether a record is none of row 7, and its count of terms where it is
+pub record FrameRead (bytes : List ℕ) (right : Bool) (count : ℕ) : Type 0 where
+  pub right-is : right ≡ wellFormed bytes
+  pub count-is : right ≡ true → count ≡ countIn bytes
+
+-- bytes that are as many as a record of that many terms has
+pub record Framed (bytes : List ℕ) (count : ℕ) : Type 0 where
+  pub few : count ≤ 1023
+  pub long : length bytes ≡ recordLength count
+
+-- the bits after the last of that many terms, as a number
+abbrev pub fillAfter : ℕ → List ℕ → ℕ
+fillAfter count bytes = numberOf (drop (55 + 26 * count) (bitsOf bytes))
+
+-- what is wrong with the rest value and the band of a well-formed record
+abbrev pub fieldsRefusal : List ℕ → ℕ
+fieldsRefusal bytes = 2 when beyond 20000 (restIn bytes) then 3 when ltb 40000 (bandIn bytes)
+
+-- the header of a record whose count is known
+pub record FieldsRead (bytes : List ℕ) (known refusal slots : ℕ) (band rest : ℤ) (count : ℕ) : Type 0 where
+  pub refusal-is : refusal ≡ fieldsRefusal bytes
+  pub slots-is : slots ≡ granted refusal (slotsIn bytes) 0
+  pub band-is : band ≡ granted refusal (pos (bandIn bytes)) (pos 0)
+  pub rest-is : rest ≡ granted refusal (restIn bytes) (pos 0)
+  pub count-is : count ≡ granted refusal known 0
+
+-- the header of a record, with the refusals 7, 2 and 3
+pub record HeaderRead (bytes : List ℕ) (refusal slots : ℕ) (band rest : ℤ) (count : ℕ) : Type 0 where
+  pub refusal-is : refusal ≡ headerRefusal bytes
+  pub header : HeaderOf bytes refusal slots band rest count
+
+-- a record that has that many terms, and room for them
+pub record TermsFit (bytes : List ℕ) (count : ℕ) (nodes : List ℕ) (values : List ℤ) : Type 0 where
+  pub framed : Framed bytes count
+  pub in-nodes : count ≤ length nodes
+  pub in-values : count ≤ length values
+
+-- that many terms, laid over the room
+pub record TermsRead (bytes : List ℕ) (count : ℕ) (nodes nodes′ : List ℕ) (values values′ : List ℤ) : Type 0 where
+  pub nodes-are : nodes′ ≡ laid (nodesOf (termsFrom count (drop 55 (bitsOf bytes)))) nodes
+  pub values-are : values′ ≡ laid (valuesOf (termsFrom count (drop 55 (bitsOf bytes)))) values
