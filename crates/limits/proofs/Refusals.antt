@@ -16,6 +16,11 @@ pub granted-nothing {ℓ} : {A : Type ℓ} (refusal : ℕ) (result nothing : A) 
 granted-nothing zero result nothing wrong = absurd (omega arith)
 granted-nothing (suc refusal) result nothing wrong = refl
 
+-- none of two refusals
+pub none-of-two : (first later : ℕ) → first then later ≡ 0 → (first ≡ 0) × (later ≡ 0)
+none-of-two zero later none = (refl, none)
+none-of-two (suc first) later none = absurd (omega arith)
+
 -- a test that did not refuse, and what comes after it
 pub passed : (number : ℕ) (test : Bool) (later : ℕ) → suc number when test then later ≡ 0 → (test ≡ false) × (later ≡ 0)
 passed number true later none = absurd (omega arith)

@@ -3,17 +3,20 @@ use mathlib.Core.Path.{_≡_, refl, sym, ap, _∙_, subst}
 use mathlib.Core.Bool.{Bool, true, false}
 use Prim.Native.Nat.{ℕ, zero, suc, _+_, _<_, _≤_, _^_}
 use native.Mathlib.Omega.{arith}
-use lib.Dec.{T}
+use lib.Dec.{T, leb}
 use lib.IntN.{ℤ, pos, negsuc, _-ℤ_, natAbs}
 use lib.Signed.{mag, ltZ, nonNeg}
 use borrow.Author.Tests.{ltb-true}
-use mir.Syntax.{w16, w32, w64}
-use mir.Val.{SFits, toZ, ofZ}
+use mir.Syntax.{Width, w16, w32, w64}
+use mir.Val.{SFits, hbits, toZ, ofZ}
 use mir.Facts.{toZ-ofZ, sfits-widen}
 
--- a number of 32 bits, read back after it was widened to 64
+-- a number of one width, read back after it was widened to another
+pub widened-to : (narrow wide : Width) {z : ℤ} → T (leb (hbits narrow) (hbits wide)) → SFits narrow z → toZ wide (ofZ wide (toZ narrow (ofZ narrow z))) ≡ z
+widened-to narrow wide wider f = rw (toZ-ofZ f, toZ-ofZ (sfits-widen wider f))
+
 pub widened : {z : ℤ} → SFits w32 z → toZ w64 (ofZ w64 (toZ w32 (ofZ w32 z))) ≡ z
-widened f = rw (toZ-ofZ f, toZ-ofZ (sfits-widen tt f))
+widened f = widened-to w32 w64 tt f
 
 -- a number below 0, its sign turned
 pub turned : (z : ℤ) → ltZ z (pos 0) ≡ true → pos 0 -ℤ z ≡ pos (natAbs z)

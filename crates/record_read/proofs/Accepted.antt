@@ -7,7 +7,7 @@ use lib.IntN.{ℤ, pos}
 use lib.ListN.{length, take, drop}
 use borrow.Author.Tests.{lt-ltb, le-ltb}
 use Rattle.limits.specs.Answers.{_when_, _then_, granted, laid}
-use Rattle.limits.proofs.Refusals.{first-counts, granted-nothing}
+use Rattle.limits.proofs.Refusals.{first-counts, granted-nothing, none-of-two}
 use Rattle.bits.specs.Bits.{bitsOf}
 use Rattle.record.specs.Record.{slotsIn, bandIn, restIn, countIn, termsIn}
 use Rattle.record.specs.Answers.{headerRefusal, recordRefusal, nodesOf, valuesOf, RecordRead}
@@ -15,11 +15,6 @@ use Rattle.record_read.specs.Inner.{RoomRead}
 use Rattle.record_read.proofs.Frames.{no-header}
 use Rattle.record_read.proofs.Rooms.{front-of, room-for}
 use Rattle.record_read.proofs.Terms.{nodes-long, values-long}
-
--- no refusal among two is none of the first
-first-none : (first later : ℕ) → first then later ≡ 0 → first ≡ 0
-first-none Prim.Native.Nat.zero later none = refl
-first-none (Prim.Native.Nat.suc first) later none = absurd (omega arith)
 
 module _ (bytes : List ℕ) (refusal slots : ℕ) (band rest : ℤ) (count : ℕ) (nodes nodes′ : List ℕ) (values values′ : List ℤ)
     (read : RoomRead bytes refusal slots band rest count nodes nodes′ values values′) where
@@ -39,7 +34,7 @@ module _ (bytes : List ℕ) (refusal slots : ℕ) (band rest : ℤ) (count : ℕ
     record-right = sym (read .refusal-is) ∙ none
 
     header-right : headerRefusal bytes ≡ 0
-    header-right = first-none (headerRefusal bytes) _ record-right
+    header-right = none-of-two (headerRefusal bytes) _ record-right .0
 
     pub count-is : count ≡ countIn bytes
     count-is = rw none at (read .header .count-is)

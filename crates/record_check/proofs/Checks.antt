@@ -1,0 +1,80 @@
+-- The check's ways out: each refusal in its turn, and the verdict where none is left.
+use mathlib.Core.Path.{_≡_, refl, sym, ap, _∙_}
+use mathlib.Core.Bool.{Bool, true, false, not}
+use mathlib.Core.List.{List}
+use Prim.Native.Nat.{ℕ, zero, suc, _≤_, _<_}
+use native.Mathlib.Omega.{arith}
+use lib.Dec.{T, eqb}
+use lib.IntN.{ℤ, pos, natAbs}
+use lib.ListN.{length, take}
+use borrow.Author.Tests.{eq-eqb, ne-eqb, ltb-false}
+use Rattle.limits.specs.Limits.{beyond, outsideSlots}
+use Rattle.limits.proofs.Refusals.{first-counts, slots-within}
+use Rattle.histogram.specs.Terms.{paired, valid}
+use Rattle.record.specs.Record.{slotsIn, bandIn, restIn, termsIn}
+use Rattle.record.specs.Answers.{recordRefusal}
+use Rattle.record_read.specs.Inner.{RoomRead}
+use Rattle.record_read.proofs.Accepted as Accepted
+use Rattle.record_check.specs.Checking.{anyBeyond, checkRefusal, Verdict, Checked}
+use Rattle.record_check.specs.Inner.{Judgeable}
+use Rattle.record_check.proofs.Slots.{sound, room-terms}
+
+module _ (profile : List ℤ) (bytes : List ℕ) where
+  refused-as : (refusal : ℕ) → 0 < refusal → checkRefusal profile bytes ≡ refusal → Checked profile bytes refusal false 0 0
+  refused-as refusal wrong is = record { refusal-is = sym is; verdict = λ none. absurd (omega arith); nothing = λ _. (refl, refl, refl) }
+
+  pub no-profile : outsideSlots (length profile) ≡ true → Checked profile bytes 4 false 0 0
+  no-profile outside = refused-as 4 (omega arith) (rw outside)
+
+  module _ (inside : outsideSlots (length profile) ≡ false) where
+    pub record-wrong : (refusal : ℕ) → refusal ≡ recordRefusal bytes → 0 < refusal → Checked profile bytes refusal false 0 0
+    record-wrong refusal is wrong = refused-as refusal wrong (rw (inside, ← is) (first-counts refusal _ wrong))
+
+    module _ (right : recordRefusal bytes ≡ 0) where
+      pub setpoint-wrong : anyBeyond profile ≡ true → Checked profile bytes 2 false 0 0
+      setpoint-wrong far = refused-as 2 (omega arith) (rw (inside, right, far))
+
+      module _ (near : anyBeyond profile ≡ false) where
+        pub other-length : (slotsIn bytes ≡ length profile → ⊥) → Checked profile bytes 9 false 0 0
+        other-length differ = refused-as 9 (omega arith) (rw (inside, right, near, ne-eqb (slotsIn bytes) (length profile) differ))
+
+        pub verdict-given : slotsIn bytes ≡ length profile → (is-kept : Bool) (error slot : ℕ)
+            → Verdict profile (restIn bytes) (termsIn bytes) (bandIn bytes) is-kept error slot → Checked profile bytes 0 is-kept error slot
+        verdict-given same is-kept error slot verdict = record {
+          refusal-is = sym (rw (inside, right, near, eq-eqb (slotsIn bytes) (length profile) same));
+          verdict = λ _. verdict;
+          nothing = λ other. absurd (other refl);
+        }
+
+-- what judging asks, of a record in the room
+module _ (profile : List ℤ) (bytes : List ℕ) (refusal slots : ℕ) (band rest : ℤ) (count : ℕ) (nodes nodes′ : List ℕ) (values values′ : List ℤ)
+    (read : RoomRead bytes refusal slots band rest count nodes nodes′ values values′) (right : refusal ≤ 0) where
+  pub record-right : recordRefusal bytes ≡ 0
+  record-right = Accepted.record-right bytes refusal slots band rest count nodes nodes′ values values′ read right
+
+  pub rest-is : rest ≡ restIn bytes
+  rest-is = Accepted.rest-is bytes refusal slots band rest count nodes nodes′ values values′ read right
+
+  pub band-is : band ≡ pos (bandIn bytes)
+  band-is = Accepted.band-is bytes refusal slots band rest count nodes nodes′ values values′ read right
+
+  pub slots-are : slots ≡ slotsIn bytes
+  slots-are = Accepted.slots-are bytes refusal slots band rest count nodes nodes′ values values′ read right
+
+  pub terms-are : paired (take count nodes′) (take count values′) ≡ termsIn bytes
+  terms-are = room-terms bytes refusal slots band rest count nodes nodes′ values values′ read 0 right
+
+  pub rest-within : natAbs rest ≤ 20000
+  rest-within = rw rest-is (ltb-false 20000 (natAbs (restIn bytes)) (sound bytes record-right .rest-near))
+
+  pub judgeable : outsideSlots (length profile) ≡ false → anyBeyond profile ≡ false → slots ≡ length profile → Judgeable profile (bandIn bytes) rest (take count nodes′) (take count values′)
+  judgeable inside near same = record {
+    same-length =
+        Accepted.nodes-counted bytes refusal slots band rest count nodes nodes′ values values′ read right
+        ∙ sym (Accepted.values-counted bytes refusal slots band rest count nodes nodes′ values values′ read right);
+    some-slot = slots-within (length profile) inside .some-slot;
+    few-slots = slots-within (length profile) inside .few-slots;
+    rest-within = rest-within;
+    terms-valid = rw (terms-are, ← same, slots-are, sound bytes record-right .terms-valid) tt;
+    none-beyond = rw near tt;
+  }

@@ -1,0 +1,109 @@
+-- From the values handed down to all nodes to the verdict: the slots' part of them is what a synopsis restores.
+use mathlib.Core.Path.{_≡_, refl, sym, ap, _∙_}
+use mathlib.Core.Bool.{Bool, true, false, not, cond, _||_}
+use mathlib.Core.Logic.{⊎-elim}
+use mathlib.Core.List.{List, [], _∷_}
+use Prim.Native.Nat.{ℕ, zero, suc, _+_, _*_, _-_, _/_, _≤_, _<_, min}
+use native.Mathlib.Omega.{arith}
+use lib.Dec.{T, leb, ltb, eqb}
+use lib.IntN.{ℤ, pos, natAbs, _-ℤ_}
+use lib.ListN.{length, getD, take, drop, length-take, length-drop, List·getD-eq-default}
+use lib.Seq.{getD-take, getD-drop}
+use borrow.Author.Tests.{ltb-false}
+use Rattle.limits.specs.Limits.{beyond}
+use Rattle.histogram.specs.declared.Term.{Term}
+use Rattle.histogram.specs.Tree.{padded}
+use Rattle.histogram.specs.Terms.{paired, valid, termOr}
+use Rattle.histogram.specs.Restored.{restored, restoredAt, restoredSlot, pathNodes}
+use Rattle.histogram.specs.Errors.{setpointOf, slotError}
+use Rattle.histogram.specs.Inner.{HandedDown}
+use Rattle.histogram.proofs.Ascent.{ValidFrom, first-within, rest-valid}
+use Rattle.histogram.proofs.Order.{below-or-not}
+use Rattle.histogram.proofs.Powers.{padded-bound}
+use Rattle.record_check.specs.Checking.{anyBeyond, Verdict}
+use Rattle.record_check.specs.Inner.{difference, Comparable, Compared, Judgeable}
+use Rattle.record_check.proofs.Verdicts.{every-same, lowest-same, greatest-same}
+
+-- every setpoint lies within ±20,000 where none lies beyond
+within-all : (profile : List ℤ) → T (not (anyBeyond profile)) → (k : ℕ) → natAbs (getD profile k (pos 0)) ≤ 20000
+unfolding anyBeyond
+within-all [] none k = omega arith
+within-all (setpoint ∷ profile) none k = by-test (beyond 20000 setpoint) refl none k (within-all profile)
+  where
+    by-test : (far : Bool) → beyond 20000 setpoint ≡ far → T (not (far || anyBeyond profile)) → (k : ℕ)
+        → (T (not (anyBeyond profile)) → (j : ℕ) → natAbs (getD profile j (pos 0)) ≤ 20000) → natAbs (getD (setpoint ∷ profile) k (pos 0)) ≤ 20000
+    by-test true is-far impossible k others = absurd impossible
+    by-test false is-near rest zero others = ltb-false 20000 (natAbs setpoint) is-near
+    by-test false is-near rest (suc j) others = others rest j
+
+-- a restored value lies within ±20,000, as the rest value and the terms' values do
+term-within : {last end : ℕ} (otherwise : ℤ) (terms : List Term) (node : ℕ) → ValidFrom last end terms → natAbs otherwise ≤ 20000 → natAbs (termOr otherwise terms node) ≤ 20000
+unfolding termOr
+term-within otherwise [] node proper near = near
+term-within otherwise (term ∷ terms) node proper near = by-test (eqb (term .node) node) (term-within otherwise terms node (rest-valid proper) near)
+  where
+    by-test : (here : Bool) → natAbs (termOr otherwise terms node) ≤ 20000 → natAbs (cond here (term .value) (termOr otherwise terms node)) ≤ 20000
+    by-test true others = first-within proper
+    by-test false others = others
+
+restored-within : {last end : ℕ} (rest : ℤ) (terms : List Term) (count node : ℕ) → ValidFrom last end terms → natAbs rest ≤ 20000 → natAbs (restored rest terms count node) ≤ 20000
+unfolding restored
+restored-within rest terms zero node proper near = near
+restored-within rest terms (suc count) node proper near =
+    term-within (restored rest terms count (node / 2)) terms node proper (restored-within rest terms count (node / 2) proper near)
+
+module _ (profile : List ℤ) (band : ℕ) (rest : ℤ) (nodes : List ℕ) (values : List ℤ) (asked : Judgeable profile band rest nodes values)
+    (first : ℕ) (first-is : first ≡ padded (length profile)) (after : List ℤ) (room : 2 * first ≤ length after)
+    (handed : HandedDown rest (paired nodes values) (2 * first) after) where
+  abbrev part : List ℤ
+  part = take (2 * first - first) (drop first after)
+
+  part-long : length part ≡ first
+  part-long = simp (length-take, length-drop) (omega arith)
+
+  -- what stands in a slot is what the synopsis restores there
+  slot-value : (slot : ℕ) → slot < first → getD part slot (pos 0) ≡ restoredSlot (length profile) rest (paired nodes values) slot
+  slot-value slot below =
+      getD-take (2 * first - first) (drop first after) slot (pos 0) (omega arith)
+      ∙ getD-drop first after slot (pos 0)
+      ∙ handed .at-node (first + slot) (omega arith)
+      ∙ ap (λ (m : ℕ). restoredAt rest (paired nodes values) (m + slot)) first-is
+
+  part-within : (slot : ℕ) → natAbs (getD part slot (pos 0)) ≤ 20000
+  part-within slot =
+      ⊎-elim
+      (λ below. rw (slot-value slot below) (restored-within rest (paired nodes values) (pathNodes (padded (length profile) + slot)) _ (record { passes = asked .terms-valid }) (asked .rest-within)))
+      (λ above. rw (List·getD-eq-default part (pos 0) {n = slot} (omega (arith, part-long))) (omega arith))
+      (below-or-not slot first)
+
+  pub comparable : Comparable profile part
+  comparable = record {
+    some-slot = asked .some-slot;
+    few-slots = omega (arith, part-long, first-is, padded-bound (asked .few-slots));
+    profile-within = λ slot. within-all profile (asked .none-beyond) (min slot (length profile - 1));
+    restored-within = part-within;
+  }
+
+  same-error : (slot : ℕ) → slot < length part → difference profile part slot ≡ slotError profile rest (paired nodes values) slot
+  same-error slot below = ap (λ (value : ℤ). natAbs (setpointOf profile slot -ℤ value)) (slot-value slot (omega (arith, part-long)))
+
+  pub judged : (within : Bool) (error slot : ℕ) → Compared profile part band within error slot → Verdict profile rest (paired nodes values) band within error slot
+  judged within error slot compared =
+      let long : length part ≡ padded (length profile) = part-long ∙ first-is in
+      record {
+        kept-is =
+            compared .within-is
+            ∙ every-same (λ k. leb (difference profile part k) band) (λ k. leb (slotError profile rest (paired nodes values) k) band) (length part)
+            (λ k below. ap (λ (e : ℕ). leb e band) (same-error k below))
+            ∙ rw long;
+        error-is =
+            compared .error-is
+            ∙ ap (λ (e : ℕ). cond within e 0)
+            (greatest-same (difference profile part) (slotError profile rest (paired nodes values)) (length part) same-error ∙ rw long);
+        slot-is =
+            compared .slot-is
+            ∙ ap (λ (s : ℕ). cond within 0 s)
+            (lowest-same (λ k. ltb band (difference profile part k)) (λ k. ltb band (slotError profile rest (paired nodes values) k)) (length part)
+            (λ k below. ap (ltb band) (same-error k below))
+            ∙ rw long);
+      }

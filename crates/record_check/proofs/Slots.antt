@@ -1,0 +1,68 @@
+-- One slot of a record: the record's refusals, and then those of restoring that can still come.
+use mathlib.Core.Path.{_≡_, refl, sym, ap, _∙_}
+use mathlib.Core.Bool.{Bool, true, false, not}
+use mathlib.Core.List.{List}
+use Prim.Native.Nat.{ℕ, zero, suc, _+_, _≤_, _<_}
+use native.Mathlib.Omega.{arith}
+use lib.Dec.{leb, ltb, eqb}
+use lib.IntN.{ℤ, pos}
+use lib.ListN.{length, take}
+use borrow.Author.Tests.{ne-eqb, le-ltb, not-false}
+use Rattle.limits.specs.Answers.{_when_, _then_, granted}
+use Rattle.limits.specs.Limits.{beyond, outsideSlots}
+use Rattle.limits.proofs.Refusals.{first-counts, granted-nothing, none-of-two, passed, passed-last}
+use Rattle.bits.proofs.Bytes.{field-below}
+use Rattle.histogram.specs.Terms.{paired, valid}
+use Rattle.histogram.specs.Restoring.{synopsisRefusal, SlotRestored}
+use Rattle.record.specs.Record.{slotsIn, bandIn, restIn, termsIn, wellFormed}
+use Rattle.record.specs.Answers.{headerRefusal, recordRefusal}
+use Rattle.record_read.specs.Inner.{RoomRead}
+use Rattle.record_read.proofs.Accepted as Accepted
+use Rattle.record_read.proofs.Rooms.{paired-again}
+use Rattle.record_check.specs.Checking.{SlotRead}
+
+-- a record's slots are those of a profile
+pub slots-inside : (bytes : List ℕ) → outsideSlots (slotsIn bytes) ≡ false
+slots-inside bytes = rw (ne-eqb (slotsIn bytes) 0 (λ same. omega arith)) (le-ltb 512 (slotsIn bytes) (omega (arith, field-below bytes 4 9)))
+
+-- where the record is not refused, neither is its synopsis
+pub record Sound (bytes : List ℕ) : Type 0 where
+  pub rest-near : beyond 20000 (restIn bytes) ≡ false
+  pub band-inside : ltb 40000 (bandIn bytes) ≡ false
+  pub terms-valid : valid (slotsIn bytes) (termsIn bytes) ≡ true
+
+pub sound : (bytes : List ℕ) → recordRefusal bytes ≡ 0 → Sound bytes
+sound bytes none =
+    let parts = none-of-two (headerRefusal bytes) (8 when not (valid (slotsIn bytes) (termsIn bytes))) none in
+    let seven = passed 6 (not (wellFormed bytes)) (2 when beyond 20000 (restIn bytes) then 3 when ltb 40000 (bandIn bytes)) (parts .0) in
+    let two = passed 1 (beyond 20000 (restIn bytes)) (3 when ltb 40000 (bandIn bytes)) (seven .1) in
+    record {
+      rest-near = two .0;
+      band-inside = passed-last 2 (ltb 40000 (bandIn bytes)) (two .1);
+      terms-valid = not-false (valid (slotsIn bytes) (termsIn bytes)) (passed-last 7 (not (valid (slotsIn bytes) (termsIn bytes))) (parts .1));
+    }
+
+module _ (bytes : List ℕ) (refusal slots : ℕ) (band rest : ℤ) (count : ℕ) (nodes nodes′ : List ℕ) (values values′ : List ℤ)
+    (read : RoomRead bytes refusal slots band rest count nodes nodes′ values values′) (slot : ℕ) where
+  pub refused-slot : 0 < refusal → SlotRead bytes slot refusal (pos 0)
+  refused-slot wrong = record {
+    refusal-is = sym (rw (← read .refusal-is) (first-counts refusal _ wrong));
+    setpoint-is = sym (granted-nothing refusal _ (pos 0) wrong);
+  }
+
+  module _ (right : refusal ≤ 0) where
+    -- the terms in the room are the record's
+    pub room-terms : paired (take count nodes′) (take count values′) ≡ termsIn bytes
+    room-terms =
+        rw (Accepted.room-nodes bytes refusal slots band rest count nodes nodes′ values values′ read right, Accepted.room-values bytes refusal slots band rest count nodes nodes′ values values′ read right)
+        (paired-again (termsIn bytes))
+
+    pub restored-slot : (outcome : ℕ) (setpoint : ℤ) → SlotRestored slots rest (paired (take count nodes′) (take count values′)) slot outcome setpoint → SlotRead bytes slot outcome setpoint
+    restored-slot outcome setpoint restored =
+        let record-right = Accepted.record-right bytes refusal slots band rest count nodes nodes′ values values′ read right in
+        let is-sound = sound bytes record-right in
+        let slots-are = Accepted.slots-are bytes refusal slots band rest count nodes nodes′ values values′ read right in
+        let rest-is = Accepted.rest-is bytes refusal slots band rest count nodes nodes′ values values′ read right in
+        let own = rw (room-terms, slots-are, rest-is) at restored in
+        let not-refused : synopsisRefusal (slotsIn bytes) (restIn bytes) (termsIn bytes) ≡ 0 = rw (slots-inside bytes, is-sound .rest-near, is-sound .terms-valid) in
+        record { refusal-is = own .refusal-is ∙ rw (not-refused, record-right); setpoint-is = own .setpoint-is }

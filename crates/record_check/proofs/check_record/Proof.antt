@@ -1,0 +1,163 @@
+-- `record_check::check_record` meets its contract: each way out is a case of `Checks`.
+use mathlib.Core.Path.{_≡_, sym, ap, _∙_}
+use Prim.Native.Nat.{ℕ, _≤_, _<_, _^_}
+use native.Mathlib.Omega.{arith}
+use lib.IntN.{ℤ, pos, natAbs}
+use lib.ListN.{length}
+use mir.Syntax.{w16, w32}
+use mir.Val.{SFits, Fits, toZ, ofZ}
+use mir.Facts.{toZ-ofZ}
+use Rattle.limits.specs.Limits.{outsideSlots}
+use Rattle.bits.proofs.Bytes.{field-below}
+use Rattle.histogram.proofs.Signed.{narrower, narrower-fits}
+use Rattle.record.specs.Record.{bandIn}
+use Rattle.record_read.proofs.Accepted as Accepted
+use Rattle.record_check.proofs.Checks as Checks
+use borrow.Author.Needs.{needs}
+use Rattle.record_check.proofs.check_record.Statement.{statement}
+use Rattle.record_check.proofs.check_record.Tie as tie
+
+band-fits : (c : tie.After-read-into-room) → SFits w32 (c .read-into-room .result .band)
+band-fits c = search needs
+
+rest-fits : (c : tie.After-read-into-room) → SFits w32 (c .read-into-room .result .rest)
+rest-fits c = search needs
+
+is-outside-slots-requires : tie.Need-is-outside-slots-requires
+is-outside-slots-requires c κs = search needs
+
+refused-requires : tie.Need-refused-requires
+refused-requires c κs = search needs
+
+returns : tie.Need-returns
+returns c =
+    let a = c .before .before .before .before .args in
+    let r = c .refused .ensures in
+    rw (r .0, r .1, r .2, r .3) (Checks.no-profile (a .setpoints .now) (a .bytes .now) (sym (c .before .before .is-outside-slots .ensures) ∙ c .before .if1 .taken))
+
+slice-aggregate-read-into-room : tie.Need-slice-aggregate-read-into-room
+slice-aggregate-read-into-room c = search needs
+
+slice-aggregate-read-into-room-2 : tie.Need-slice-aggregate-read-into-room-2
+slice-aggregate-read-into-room-2 c = search needs
+
+read-into-room-requires : tie.Need-read-into-room-requires
+read-into-room-requires c κs = search needs
+
+refused-requires-2 : tie.Need-refused-requires-2
+refused-requires-2 c κs = search needs
+
+returns-2 : tie.Need-returns-2
+returns-2 c =
+    let a = c .before .before .before .before .before .before .before .before .before .before .before .args in
+    let r = c .refused2 .ensures in
+    rw (r .0, r .1, r .2, r .3)
+    (Checks.record-wrong (a .setpoints .now) (a .bytes .now) (sym (c .before .before .before .before .before .before .before .before .before .is-outside-slots .ensures) ∙ c .before .before .before .before .before .before .before .before .if1 .left) _ (c .before .before .before .before .before .read-into-room .ensures .refusal-is) (c .before .if2 .taken))
+
+is-any-beyond-requires : tie.Need-is-any-beyond-requires
+is-any-beyond-requires c κs = search needs
+
+refused-requires-3 : tie.Need-refused-requires-3
+refused-requires-3 c κs = search needs
+
+returns-3 : tie.Need-returns-3
+returns-3 c =
+    let a = c .before .before .before .before .before .before .before .before .before .before .before .before .before .args in
+    let r = c .refused3 .ensures in
+    let right = Checks.record-right (a .setpoints .now) (a .bytes .now) _ _ _ _ _ _ _ _ _ (c .before .before .before .before .before .before .before .read-into-room .ensures) (c .before .before .before .if2 .left) in
+    rw (r .0, r .1, r .2, r .3)
+    (Checks.setpoint-wrong (a .setpoints .now) (a .bytes .now) (sym (c .before .before .before .before .before .before .before .before .before .before .before .is-outside-slots .ensures) ∙ c .before .before .before .before .before .before .before .before .before .before .if1 .left) right (sym (c .before .before .is-any-beyond .ensures) ∙ c .before .if3 .taken))
+
+refused-requires-4 : tie.Need-refused-requires-4
+refused-requires-4 c κs = search needs
+
+returns-4 : tie.Need-returns-4
+returns-4 c =
+    let a = c .before .before .before .before .before .before .before .before .before .before .before .before .before .before .before .args in
+    let r = c .refused4 .ensures in
+    let read = c .before .before .before .before .before .before .before .before .before .read-into-room .ensures in
+    let right = Checks.record-right (a .setpoints .now) (a .bytes .now) _ _ _ _ _ _ _ _ _ read (c .before .before .before .before .before .if2 .left) in
+    let slots = Checks.slots-are (a .setpoints .now) (a .bytes .now) _ _ _ _ _ _ _ _ _ read (c .before .before .before .before .before .if2 .left) in
+    rw (r .0, r .1, r .2, r .3)
+    (Checks.other-length (a .setpoints .now) (a .bytes .now) (sym (c .before .before .before .before .before .before .before .before .before .before .before .before .before .is-outside-slots .ensures) ∙ c .before .before .before .before .before .before .before .before .before .before .before .before .if1 .left) right (sym (c .before .before .before .before .is-any-beyond .ensures) ∙ c .before .before .before .if3 .left)
+    (λ same. c .before .if4 .taken (slots ∙ same)))
+
+cast-judge : tie.Need-cast-judge
+cast-judge c =
+    let a = c .before .before .before .before .before .before .before .before .before .before .before .before .before .before .before .before .args in
+    let room = c .before .before .before .before .before .before .before .before .before .before in
+    let band = Checks.band-is (a .setpoints .now) (a .bytes .now) _ _ _ _ _ _ _ _ _ (room .read-into-room .ensures) (c .before .before .before .before .before .before .if2 .left) in
+    let fits : Fits w32 (bandIn (a .bytes .now)) = omega (arith, field-below (a .bytes .now) 13 16) in
+    rw (toZ-ofZ (band-fits room), band) (tt, fits)
+
+cast-judge-2 : tie.Need-cast-judge-2
+cast-judge-2 c =
+    let a = c .before .before .before .before .before .before .before .before .before .before .before .before .before .before .before .before .before .before .args in
+    let room = c .before .before .before .before .before .before .before .before .before .before .before .before in
+    narrower-fits (rest-fits room) (Checks.rest-within (a .setpoints .now) (a .bytes .now) _ _ _ _ _ _ _ _ _ (room .read-into-room .ensures) (c .before .before .before .before .before .before .before .before .if2 .left))
+
+array-share-prefix-nodes : tie.Need-array-share-prefix-nodes
+array-share-prefix-nodes c = Accepted.in-nodes (c .before .before .before .before .before .before .before .before .before .before .before .before .before .before .before .before .before .before .args .bytes .now) _ _ _ _ _ _ _ _ _ (c .before .before .before .before .before .before .before .before .before .before .before .before .read-into-room .ensures) (c .before .before .before .before .before .before .before .before .if2 .left)
+
+slice-aggregate-judge : tie.Need-slice-aggregate-judge
+slice-aggregate-judge c = sym (Accepted.nodes-counted (c .before .before .before .before .before .before .before .before .before .before .before .before .before .before .before .before .before .before .before .args .bytes .now) _ _ _ _ _ _ _ _ _ (c .before .before .before .before .before .before .before .before .before .before .before .before .before .read-into-room .ensures) (c .before .before .before .before .before .before .before .before .before .if2 .left))
+
+array-share-prefix-values : tie.Need-array-share-prefix-values
+array-share-prefix-values c = Accepted.in-values (c .before .before .before .before .before .before .before .before .before .before .before .before .before .before .before .before .before .before .before .args .bytes .now) _ _ _ _ _ _ _ _ _ (c .before .before .before .before .before .before .before .before .before .before .before .before .before .read-into-room .ensures) (c .before .before .before .before .before .before .before .before .before .if2 .left)
+
+slice-aggregate-judge-2 : tie.Need-slice-aggregate-judge-2
+slice-aggregate-judge-2 c = sym (Accepted.values-counted (c .before .before .before .before .before .before .before .before .before .before .before .before .before .before .before .before .before .before .before .before .args .bytes .now) _ _ _ _ _ _ _ _ _ (c .before .before .before .before .before .before .before .before .before .before .before .before .before .before .read-into-room .ensures) (c .before .before .before .before .before .before .before .before .before .before .if2 .left))
+
+judge-requires : tie.Need-judge-requires
+judge-requires c κs =
+    let a = c .before .before .before .before .before .before .before .before .before .before .before .before .before .before .before .before .before .before .before .before .args in
+    let room = c .before .before .before .before .before .before .before .before .before .before .before .before .before .before in
+    let read = room .read-into-room .ensures in
+    let right = c .before .before .before .before .before .before .before .before .before .before .if2 .left in
+    let near = Checks.rest-within (a .setpoints .now) (a .bytes .now) _ _ _ _ _ _ _ _ _ read right in
+    let band = Checks.band-is (a .setpoints .now) (a .bytes .now) _ _ _ _ _ _ _ _ _ read right in
+    rw (narrower (rest-fits room) near, toZ-ofZ (band-fits room), band)
+    (Checks.judgeable (a .setpoints .now) (a .bytes .now) _ _ _ _ _ _ _ _ _ read right (sym (c .before .before .before .before .before .before .before .before .before .before .before .before .before .before .before .before .before .before .is-outside-slots .ensures) ∙ c .before .before .before .before .before .before .before .before .before .before .before .before .before .before .before .before .before .if1 .left)
+    (sym (c .before .before .before .before .before .before .before .before .before .is-any-beyond .ensures) ∙ c .before .before .before .before .before .before .before .before .if3 .left) (c .before .before .before .before .before .before .if4 .left))
+
+returns-5 : tie.Need-returns-5
+returns-5 c =
+    let a = c .before .before .before .before .before .before .before .before .before .before .before .before .before .before .before .before .before .before .before .before .before .args in
+    let room = c .before .before .before .before .before .before .before .before .before .before .before .before .before .before .before in
+    let read = room .read-into-room .ensures in
+    let right = c .before .before .before .before .before .before .before .before .before .before .before .if2 .left in
+    let near = Checks.rest-within (a .setpoints .now) (a .bytes .now) _ _ _ _ _ _ _ _ _ read right in
+    let band = Checks.band-is (a .setpoints .now) (a .bytes .now) _ _ _ _ _ _ _ _ _ read right in
+    let rest = Checks.rest-is (a .setpoints .now) (a .bytes .now) _ _ _ _ _ _ _ _ _ read right in
+    let terms = Checks.terms-are (a .setpoints .now) (a .bytes .now) _ _ _ _ _ _ _ _ _ read right in
+    let slots = Checks.slots-are (a .setpoints .now) (a .bytes .now) _ _ _ _ _ _ _ _ _ read right in
+    let verdict = rw (narrower (rest-fits room) near, toZ-ofZ (band-fits room), band, rest, terms) at (c .judge .ensures .1) in
+    rw (c .judge .ensures .0)
+    (Checks.verdict-given (a .setpoints .now) (a .bytes .now) (sym (c .before .before .before .before .before .before .before .before .before .before .before .before .before .before .before .before .before .before .before .is-outside-slots .ensures) ∙ c .before .before .before .before .before .before .before .before .before .before .before .before .before .before .before .before .before .before .if1 .left)
+    (Checks.record-right (a .setpoints .now) (a .bytes .now) _ _ _ _ _ _ _ _ _ read right) (sym (c .before .before .before .before .before .before .before .before .before .before .is-any-beyond .ensures) ∙ c .before .before .before .before .before .before .before .before .before .if3 .left) (sym slots ∙ c .before .before .before .before .before .before .before .if4 .left) _ _ _ verdict)
+
+pub check-record-spec : {M : Type 1} → statement M
+check-record-spec =
+    tie.close
+    (tie.spec
+    is-outside-slots-requires
+    refused-requires
+    returns
+    slice-aggregate-read-into-room
+    slice-aggregate-read-into-room-2
+    read-into-room-requires
+    refused-requires-2
+    returns-2
+    is-any-beyond-requires
+    refused-requires-3
+    returns-3
+    refused-requires-4
+    returns-4
+    cast-judge
+    cast-judge-2
+    array-share-prefix-nodes
+    slice-aggregate-judge
+    array-share-prefix-values
+    slice-aggregate-judge-2
+    judge-requires
+    returns-5)

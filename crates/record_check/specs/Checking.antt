@@ -1,0 +1,66 @@
+-- One slot of a record, and the check of setpoints against a record: document 01, "Building, checking, least band". For the auditor.
+-- `proofs/Verdicts.antt` shows that `kept` says what `Keeps` of the histogram says.
+use mathlib.Core.Path.{_≡_}
+use mathlib.Core.Bool.{Bool, true, false, not, cond, _&&_, _||_}
+use mathlib.Core.List.{List, [], _∷_}
+use Prim.Native.Nat.{ℕ, zero, suc}
+use lib.Dec.{leb, ltb, eqb}
+use lib.IntN.{ℤ, pos}
+use lib.ListN.{length}
+use Rattle.limits.specs.Answers.{_when_, _then_, granted}
+use Rattle.limits.specs.Limits.{beyond, outsideSlots}
+use Rattle.histogram.specs.declared.Term.{Term}
+use Rattle.histogram.specs.Tree.{padded}
+use Rattle.histogram.specs.Restored.{restoredSlot}
+use Rattle.histogram.specs.Errors.{slotError, greatestError}
+use Rattle.record.specs.Record.{slotsIn, bandIn, restIn, termsIn}
+use Rattle.record.specs.Answers.{recordRefusal}
+
+-- "One slot: the record's without 6, then 10"
+abbrev pub slotRefusal : List ℕ → ℕ → ℕ
+slotRefusal bytes slot = recordRefusal bytes then 10 when leb (slotsIn bytes) slot
+
+-- the answer for one slot of a record
+pub record SlotRead (bytes : List ℕ) (slot refusal : ℕ) (setpoint : ℤ) : Type 0 where
+  pub refusal-is : refusal ≡ slotRefusal bytes slot
+  pub setpoint-is : setpoint ≡ granted refusal (restoredSlot (slotsIn bytes) (restIn bytes) (termsIn bytes) slot) (pos 0)
+
+-- row 2 of setpoints: whether one lies beyond ±20,000
+unfoldable pub anyBeyond : List ℤ → Bool
+anyBeyond [] = false
+anyBeyond (setpoint ∷ setpoints) = beyond 20000 setpoint || anyBeyond setpoints
+
+-- "Check: 4, 7, 2, 3, 8, then 2 for the setpoints, 9"
+abbrev pub checkRefusal : List ℤ → List ℕ → ℕ
+checkRefusal profile bytes =
+    4 when outsideSlots (length profile) then recordRefusal bytes then 2 when anyBeyond profile then 9 when not (eqb (slotsIn bytes) (length profile))
+
+-- whether 0, 1 and on, `count` of them, all pass a test
+unfoldable pub every : (ℕ → Bool) → ℕ → Bool
+every test zero = true
+every test (suc count) = every test count && test count
+
+-- the lowest of 0, 1 and on, `count` of them, that passes a test; `count` where none does
+unfoldable pub lowest : (ℕ → Bool) → ℕ → ℕ
+lowest test zero = 0
+lowest test (suc count) = cond (test 0) 0 (suc (lowest (λ k. test (suc k)) count))
+
+-- "kept": every slot's error is within the band
+abbrev pub kept : List ℤ → ℤ → List Term → ℕ → Bool
+kept profile rest terms band = every (λ slot. leb (slotError profile rest terms slot) band) (padded (length profile))
+
+-- "the lowest slot whose error exceeds the band"
+abbrev pub lowestBeyond : List ℤ → ℤ → List Term → ℕ → ℕ
+lowestBeyond profile rest terms band = lowest (λ slot. ltb band (slotError profile rest terms slot)) (padded (length profile))
+
+-- a verdict on a synopsis: kept with the greatest error, or not kept with the lowest slot; "the other number is 0"
+pub record Verdict (profile : List ℤ) (rest : ℤ) (terms : List Term) (band : ℕ) (is-kept : Bool) (error slot : ℕ) : Type 0 where
+  pub kept-is : is-kept ≡ kept profile rest terms band
+  pub error-is : error ≡ cond is-kept (greatestError profile rest terms) 0
+  pub slot-is : slot ≡ cond is-kept 0 (lowestBeyond profile rest terms band)
+
+-- the answer of the check: the verdict by the record's band and rest value, and nothing on a refusal
+pub record Checked (profile : List ℤ) (bytes : List ℕ) (refusal : ℕ) (is-kept : Bool) (error slot : ℕ) : Type 0 where
+  pub refusal-is : refusal ≡ checkRefusal profile bytes
+  pub verdict : refusal ≡ 0 → Verdict profile (restIn bytes) (termsIn bytes) (bandIn bytes) is-kept error slot
+  pub nothing : (refusal ≡ 0 → ⊥) → (is-kept ≡ false) × (error ≡ 0) × (slot ≡ 0)

@@ -1,0 +1,161 @@
+// One slot of a record, and the check of setpoints against a record.
+use histogram::restore::SlotAnswer;
+use histogram::restore::hand_down;
+use histogram::restore::restore_slot;
+use histogram::terms::padded_length;
+use record_read::read_into_room;
+ghost use mathlib.Core.Path.{_≡_};
+ghost use mathlib.Core.Bool.{false};
+ghost use Prim.Native.Nat.{min, max};
+ghost use Rattle.histogram.specs.Terms.{paired};
+ghost use Rattle.record_check.specs.Checking.{SlotRead, anyBeyond, Checked, Verdict};
+ghost use Rattle.record_check.specs.Inner.{Comparable, Compared, InSlot, ErrorIs, Judgeable};
+
+// The setpoint restored in one slot of a record.
+pub fn read_slot(bytes: &[u8], slot: usize) -> SlotAnswer
+    ensures { λ r. ⌜ SlotRead (now (bytes .entry)) slot (r .refusal) (r .setpoint) ⌝ }
+{
+    let mut nodes = [0u16; 1023];
+    let mut values = [0i16; 1023];
+    let header = read_into_room(bytes, &mut nodes, &mut values);
+    if 0 < header.refusal {
+        return SlotAnswer {
+            refusal: header.refusal,
+            setpoint: 0,
+        };
+    }
+    let count = header.count;
+    restore_slot(
+        header.slots,
+        header.rest,
+        &nodes[..count],
+        &values[..count],
+        slot,
+    )
+}
+
+// The check's answer: kept with the greatest error, or not kept with the lowest slot beyond the band.
+pub struct CheckAnswer {
+    pub refusal: u8,
+    pub kept: bool,
+    pub error: u16,
+    pub slot: u16,
+}
+
+// Checks setpoints against a record.
+pub fn check_record(setpoints: &[i16], bytes: &[u8]) -> CheckAnswer
+    ensures { λ r. ⌜ Checked (now (setpoints .entry)) (now (bytes .entry)) (r .refusal) (r .kept) (r .error) (r .slot) ⌝ }
+{
+    if limits::is_outside_slots(setpoints.len()) {
+        return refused(4);
+    }
+    let mut nodes = [0u16; 1023];
+    let mut values = [0i16; 1023];
+    let header = read_into_room(bytes, &mut nodes, &mut values);
+    if 0 < header.refusal {
+        return refused(header.refusal);
+    }
+    if is_any_beyond(setpoints) {
+        return refused(2);
+    }
+    if header.slots != setpoints.len() {
+        return refused(9);
+    }
+    let count = header.count;
+    judge(
+        setpoints,
+        header.band as u32,
+        header.rest as i16,
+        &nodes[..count],
+        &values[..count],
+    )
+}
+
+// The verdict on a synopsis whose values are restored at all nodes first.
+fn judge(setpoints: &[i16], band: u32, rest: i16, nodes: &[u16], values: &[i16]) -> CheckAnswer
+    requires { ⌜ Judgeable (now setpoints) band rest (now nodes) (now values) ⌝ }
+    ensures { λ r. ⌜ (r .refusal ≡ 0) × Verdict (now (setpoints .entry)) rest (paired (now (nodes .entry)) (now (values .entry))) band (r .kept) (r .error) (r .slot) ⌝ }
+{
+    let mut restored = [0i16; 1024];
+    let padded = padded_length(setpoints.len());
+    let end = 2 * padded;
+    hand_down(end, rest, nodes, values, &mut restored);
+    compare(setpoints, &restored[padded..end], band)
+}
+
+// Compares each slot's setpoint with what stands there, up to the first difference beyond the band.
+fn compare(setpoints: &[i16], restored: &[i16], band: u32) -> CheckAnswer
+    requires { ⌜ Comparable (now setpoints) (now restored) ⌝ }
+    ensures { λ r. ⌜ (r .refusal ≡ 0) × Compared (now (setpoints .entry)) (now (restored .entry)) band (r .kept) (r .error) (r .slot) ⌝ }
+{
+    let mut greatest: u32 = 0;
+    let mut slot = 0;
+    while slot < restored.len() {
+        let error = error_in(setpoints, restored, slot);
+        if band < error {
+            return CheckAnswer {
+                refusal: 0,
+                kept: false,
+                error: 0,
+                slot: slot as u16,
+            };
+        }
+        greatest = larger(greatest, error);
+        slot += 1;
+    }
+    CheckAnswer {
+        refusal: 0,
+        kept: true,
+        error: greatest as u16,
+        slot: 0,
+    }
+}
+
+// The error in one slot; slots past the last setpoint carry it.
+fn error_in(setpoints: &[i16], restored: &[i16], slot: usize) -> u32
+    requires { ⌜ InSlot (now setpoints) (now restored) slot ⌝ }
+    ensures { λ r. ⌜ ErrorIs (now (setpoints .entry)) (now (restored .entry)) slot r ⌝ }
+{
+    let place = smaller(slot, setpoints.len() - 1);
+    let setpoint = setpoints[place];
+    let value = restored[slot];
+    limits::magnitude(setpoint as i32 - value as i32)
+}
+
+fn smaller(one: usize, other: usize) -> usize
+    ensures { λ r. ⌜ r ≡ min one other ⌝ }
+{
+    if one < other { one } else { other }
+}
+
+fn larger(one: u32, other: u32) -> u32
+    ensures { λ r. ⌜ r ≡ max one other ⌝ }
+{
+    if one < other { other } else { one }
+}
+
+// Whether a setpoint lies beyond ±20,000.
+fn is_any_beyond(setpoints: &[i16]) -> bool
+    ensures { λ r. ⌜ r ≡ anyBeyond (now (setpoints .entry)) ⌝ }
+{
+    let mut i = 0;
+    while i < setpoints.len() {
+        let setpoint = setpoints[i];
+        if limits::is_beyond(limits::VALUE_LIMIT, setpoint as i32) {
+            return true;
+        }
+        i += 1;
+    }
+    false
+}
+
+fn refused(refusal: u8) -> CheckAnswer
+    ensures { λ r. ⌜ (r .refusal ≡ refusal) × (r .kept ≡ false) × (r .error ≡ 0) × (r .slot ≡ 0) ⌝ }
+{
+    CheckAnswer {
+        refusal: refusal,
+        kept: false,
+        error: 0,
+        slot: 0,
+    }
+}

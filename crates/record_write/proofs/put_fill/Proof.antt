@@ -1,0 +1,50 @@
+-- `record_write::put_fill` meets its contract: the bits behind the last term are fewer than eight, and 0 in as many bits is zeros.
+use mathlib.Core.Path.{_≡_, _∙_}
+use mathlib.Core.List.{List, append-nil}
+use Prim.Native.Nat.{ℕ, _+_, _-_, _*_, _≤_}
+use native.Mathlib.Omega.{arith}
+use lib.ListN.{length, drop-of-length-le}
+use lib.Pow.{pow-pos}
+use Rattle.bits.specs.Bits.{bits, bitsOf, replacedAt}
+use Rattle.bits.proofs.Fields.{length-bits}
+use Rattle.bits.proofs.Bytes.{length-bits-of}
+use Rattle.record.proofs.Pieces.{bits-of-zero}
+use Rattle.record_write.specs.Inner.{filled}
+use borrow.Author.Needs.{needs}
+use Rattle.record_write.proofs.put_fill.Statement.{statement}
+use Rattle.record_write.proofs.put_fill.Tie as tie
+
+-- a field of 0 to the end of the bytes
+zeros-to-end : (bytes : List ℕ) (used : ℕ) → used ≤ 8 * length bytes → replacedAt used (bits (8 * length bytes - used) 0) (bitsOf bytes) ≡ filled used (bitsOf bytes)
+zeros-to-end bytes used inside =
+    let left : ℕ = 8 * length bytes - used in
+    let all : length (bitsOf bytes) ≤ used + length (bits left 0) = omega (arith, length-bits left 0, length-bits-of bytes) in
+    let as-many : left ≡ length (bitsOf bytes) - used = omega (arith, length-bits-of bytes) in
+    rw (drop-of-length-le (bitsOf bytes) all, append-nil (bits left 0), bits-of-zero left, as-many)
+
+mul-used : tie.Need-mul-used
+mul-used c = search needs
+
+add-used : tie.Need-add-used
+add-used c = search needs
+
+mul-end : tie.Need-mul-end
+mul-end c = search needs
+
+sub-write : tie.Need-sub-write
+sub-write c = search needs
+
+write-requires : tie.Need-write-requires
+write-requires c κs = record { within = search needs; fits = pow-pos _ }
+
+same-length : tie.Need-same-length
+same-length c = search needs
+
+returns : tie.Need-returns
+returns c =
+    let start = c .before .before .before .before .before in
+    c .before .before .write .ensures ∙ zeros-to-end (start .args .bytes .now) (55 + 26 * start .args .count) (search needs)
+
+pub put-fill-spec : {M : Type 1} → statement M
+put-fill-spec =
+    tie.close (tie.spec mul-used add-used mul-end sub-write write-requires same-length returns)
