@@ -1,3 +1,5 @@
-pub mod Fields
+pub mod Fractions
+pub mod Fronts
 pub mod RoundTrip
 pub mod Texts
+pub mod Units

@@ -1,20 +1,28 @@
 -- What inner functions promise. A reader of the promises need not open this file.
 use mathlib.Core.Path.{_≡_}
-use mathlib.Core.Bool.{true, false}
+use mathlib.Core.Bool.{Bool, true, false, _||_}
 use mathlib.Core.List.{List, _++_}
-use mathlib.Core.Option.{Option}
-use Prim.Native.Nat.{ℕ, _+_, _≤_, _<_}
-use lib.IntN.{pos}
-use lib.ListN.{length, take, drop}
-use Rattle.limits.specs.Answers.{_when_}
-use Rattle.decimal.specs.Number.{isDigit, digit, leadingDigits, decimal, unsigned, signed, negated, readsAs}
-use Rattle.decimal.specs.Answers.{isNone, numberOr}
+use mathlib.Core.Option.{Option, none, some}
+use Prim.Native.Nat.{ℕ, _+_, _*_, _≤_, _<_}
+use lib.Dec.{eqb}
+use lib.ListN.{length, getD, take, drop}
+use Rattle.decimal.specs.Number.{isDigit, digit, isMark, leadingDigits, decimal, fraction, added, unsigned}
 
--- how many bytes the sign takes, and what the field reads as by those that follow
-pub record SignRead (field : List ℕ) (width : ℕ) : Type 0 where
-  pub in-field : width ≤ length field
-  pub minus : width ≡ 1 → readsAs field ≡ signed negated (unsigned (drop width field))
-  pub no-minus : (width ≡ 1 → ⊥) → readsAs field ≡ signed pos (unsigned (drop width field))
+-- whether numbers are written with a byte
+abbrev pub inNumber : ℕ → Bool
+inNumber byte = isDigit byte || isMark byte || eqb byte 45
+
+-- the number that some bytes begin with, and how many of them it takes; a count beyond the bytes says that there is none. Where the bytes end, or one follows that is none of a number's, those before mean that number or nothing
+pub record FrontRead {A : Type 0} (meant : List ℕ → Option A) (bytes : List ℕ) (number : A) (count : ℕ) : Type 0 where
+  pub in-reach : count ≤ length bytes + 1
+  pub whole : count ≤ length bytes → meant (take count bytes) ≡ some number
+  pub unbroken : count ≤ length bytes → (place : ℕ) → place < count → inNumber (getD bytes place 0) ≡ true
+  pub no-other : (place : ℕ) → place ≤ length bytes → inNumber (getD bytes place 0) ≡ false → (place ≡ count → ⊥) → meant (take place bytes) ≡ none
+
+-- the same without a sign
+pub record PartRead (meant : List ℕ → Option ℕ) (bytes : List ℕ) (number count : ℕ) : Type 0 where
+  pub front : FrontRead meant bytes number count
+  pub at-most : number ≤ 99999
 
 -- the first digits of a field, three at the most: how many, and the number they write
 pub record UnitsRead (field : List ℕ) (count units : ℕ) : Type 0 where
@@ -23,11 +31,13 @@ pub record UnitsRead (field : List ℕ) (count units : ℕ) : Type 0 where
   pub in-field : count ≤ length field
   pub below-thousand : units ≤ 999
 
--- an unsigned number, or the refusal 1
-pub record UnsignedRead (meant : Option ℕ) (most refusal number : ℕ) : Type 0 where
-  pub refusal-is : refusal ≡ 1 when isNone meant
-  pub number-is : number ≡ numberOr 0 meant
-  pub at-most : number ≤ most
+-- what follows units, together with them
+abbrev pub withUnits : ℕ → List ℕ → Option ℕ
+withUnits units field = added (100 * units) (fraction field)
+
+-- what is read of any bytes that begin with units of `count` digits and go on as `rest`
+abbrev pub AfterUnits : ℕ → List ℕ → ℕ → ℕ → ℕ → Type 0
+AfterUnits units rest count number taken = (bytes : List ℕ) → UnitsRead bytes count units → rest ≡ drop count bytes → PartRead unsigned bytes number taken
 
 -- the number that a digit stands for, and 10 or more for any other byte
 pub record DigitRead (byte number : ℕ) : Type 0 where

@@ -1,9 +1,11 @@
-// Reading a field of bytes as a number, to its last byte.
+// Reading a number: at the front of some bytes, or as a field to its last byte.
 ghost use mathlib.Core.Path.{_≡_};
-ghost use mathlib.Core.List.{[], _∷_};
-ghost use Rattle.decimal.specs.Number.{isMark, unsigned, fraction, hundredths};
+ghost use Prim.Native.Nat.{_+_, _≤_};
+ghost use lib.Dec.{eqb};
+ghost use lib.ListN.{length, getD};
+ghost use Rattle.decimal.specs.Number.{isMark, unsigned, readsAs};
 ghost use Rattle.decimal.specs.Answers.{NumberRead};
-ghost use Rattle.decimal.specs.Inner.{SignRead, UnitsRead, UnsignedRead, DigitRead};
+ghost use Rattle.decimal.specs.Inner.{FrontRead, PartRead, AfterUnits, DigitRead, withUnits};
 
 // A number that was read, or the refusal 1 with 0.
 pub struct NumberAnswer {
@@ -11,141 +13,142 @@ pub struct NumberAnswer {
     pub number: i32,
 }
 
-// A number without its sign, or the refusal 1 with 0.
-struct Unsigned {
-    pub refusal: u8,
-    pub number: u32,
+// The number that some bytes begin with, and how many of them it takes.
+// Where there is none, the count is beyond the bytes, so that it is no field's length and no byte follows it.
+pub struct Front {
+    pub number: i32,
+    pub count: usize,
 }
 
-// How many digits a field begins with, and the number they write.
-struct Units {
+// The same without a sign.
+struct Part {
+    pub number: u32,
     pub count: usize,
-    pub units: u32,
 }
 
 // The number that a field reads as, in hundredths.
 pub fn read_number(field: &[u8]) -> NumberAnswer
     ensures { λ r. ⌜ NumberRead (now (field .entry)) (r .refusal) (r .number) ⌝ }
 {
-    let sign = sign_width(field);
-    let unsigned = read_unsigned(&field[sign..]);
-    if sign == 1 {
+    let front = read_front(field);
+    if front.count == field.len() {
         return NumberAnswer {
-            refusal: unsigned.refusal,
-            number: 0 - (unsigned.number as i32),
+            refusal: 0,
+            number: front.number,
         };
     }
     NumberAnswer {
-        refusal: unsigned.refusal,
-        number: unsigned.number as i32,
+        refusal: 1,
+        number: 0,
     }
 }
 
-// How many bytes the sign takes: 1 for a minus, and else 0.
-fn sign_width(field: &[u8]) -> usize
-    ensures { λ r. ⌜ SignRead (now (field .entry)) r ⌝ }
+// The number that some bytes begin with, up to a byte that does not go on with it; a mark that no digit follows leaves none.
+pub fn read_front(bytes: &[u8]) -> Front
+    ensures { λ r. ⌜ FrontRead readsAs (now (bytes .entry)) (r .number) (r .count) ⌝ }
 {
-    if field.len() == 0 {
-        return 0;
-    }
-    if field[0] == b'-' {
-        return 1;
-    }
-    0
-}
-
-fn read_unsigned(field: &[u8]) -> Unsigned
-    ensures { λ r. ⌜ UnsignedRead (unsigned (now (field .entry))) 99999 (r .refusal) (r .number) ⌝ }
-{
-    let units = read_units(field);
-    let count = units.count;
-    if count == 0 {
-        return Unsigned {
-            refusal: 1,
-            number: 0,
+    if is_negative(bytes) {
+        let part = read_unsigned(&bytes[1..]);
+        return Front {
+            number: 0 - (part.number as i32),
+            count: part.count + 1,
         };
     }
-    let part = read_fraction(&field[count..]);
-    if part.refusal == 1 {
-        return part;
-    }
-    Unsigned {
-        refusal: 0,
-        number: units.units * 100 + part.number,
+    let part = read_unsigned(bytes);
+    Front {
+        number: part.number as i32,
+        count: part.count,
     }
 }
 
-// The digits that a field begins with, three at the most.
-fn read_units(field: &[u8]) -> Units
-    ensures { λ r. ⌜ UnitsRead (now (field .entry)) (r .count) (r .units) ⌝ }
+fn is_negative(bytes: &[u8]) -> bool
+    ensures { λ r. ⌜ r ≡ eqb (getD (now (bytes .entry)) 0 0) 45 ⌝ }
+{
+    if bytes.len() == 0 {
+        return false;
+    }
+    bytes[0] == b'-'
+}
+
+// The units, three digits at the most, and what follows them.
+// Each way out of the loop reads on by itself, so that the compiler knows how many digits there are; only parts of `bytes` are passed on, so that it hands the slice over in registers.
+fn read_unsigned(bytes: &[u8]) -> Part
+    ensures { λ r. ⌜ PartRead unsigned (now (bytes .entry)) (r .number) (r .count) ⌝ }
 {
     let mut count = 0;
     let mut units: u32 = 0;
     while count < 3 {
-        if field.len() <= count {
-            return Units {
-                count: count,
-                units: units,
-            };
-        }
-        let digit = digit_of(field[count]);
+        let digit = digit_at(&bytes[count..], 0);
         if 10 <= digit {
-            return Units {
-                count: count,
-                units: units,
-            };
+            return after_units(units, &bytes[count..], count);
         }
         units = units * 10 + digit;
         count += 1;
     }
-    Units {
-        count: count,
-        units: units,
+    after_units(units, &bytes[count..], count)
+}
+
+// Reads on in `rest`, behind units of `count` digits.
+fn after_units(units: u32, rest: &[u8], count: usize) -> Part
+    requires { ⌜ (units ≤ 999) × (count ≤ 3) ⌝ }
+    ensures { λ r. ⌜ AfterUnits units (now (rest .entry)) count (r .number) (r .count) ⌝ }
+{
+    if count == 0 {
+        return no_number(rest);
+    }
+    let part = read_fraction(units, rest);
+    Part {
+        number: part.number,
+        count: count + part.count,
     }
 }
 
-// What follows the units, in hundredths: nothing, or a mark and one or two digits.
-fn read_fraction(rest: &[u8]) -> Unsigned
-    ensures { λ r. ⌜ UnsignedRead (fraction (now (rest .entry))) 99 (r .refusal) (r .number) ⌝ }
+// The units with their fraction, in hundredths: a mark and one or two digits, or none.
+fn read_fraction(units: u32, rest: &[u8]) -> Part
+    requires { ⌜ units ≤ 999 ⌝ }
+    ensures { λ r. ⌜ PartRead (withUnits units) (now (rest .entry)) (r .number) (r .count) ⌝ }
 {
-    if rest.len() == 0 {
-        return Unsigned {
-            refusal: 0,
-            number: 0,
-        };
-    }
-    if is_mark(rest[0]) {
-        if rest.len() == 2 {
-            return read_hundredths(rest[1], b'0');
+    if is_marked(rest) {
+        let tenths = digit_at(rest, 1);
+        if 10 <= tenths {
+            return no_number(rest);
         }
-        if rest.len() == 3 {
-            return read_hundredths(rest[1], rest[2]);
-        }
-    }
-    Unsigned {
-        refusal: 1,
-        number: 0,
-    }
-}
-
-// Two digits after the mark.
-fn read_hundredths(tenths: u8, rest: u8) -> Unsigned
-    ensures { λ r. ⌜ UnsignedRead (hundredths (tenths ∷ rest ∷ [])) 99 (r .refusal) (r .number) ⌝ }
-{
-    let high = digit_of(tenths);
-    let low = digit_of(rest);
-    if high < 10 {
-        if low < 10 {
-            return Unsigned {
-                refusal: 0,
-                number: high * 10 + low,
+        let hundredths = digit_at(rest, 2);
+        if 10 <= hundredths {
+            return Part {
+                number: units * 100 + tenths * 10,
+                count: 2,
             };
         }
+        return Part {
+            number: units * 100 + tenths * 10 + hundredths,
+            count: 3,
+        };
     }
-    Unsigned {
-        refusal: 1,
+    Part {
+        number: units * 100,
+        count: 0,
+    }
+}
+
+// The answer where there is none.
+fn no_number(bytes: &[u8]) -> Part
+    ensures { λ r. ⌜ (r .number ≡ 0) × (r .count ≡ length (now (bytes .entry)) + 1) ⌝ }
+{
+    Part {
         number: 0,
+        count: bytes.len() + 1,
     }
+}
+
+// The number that the digit at a place stands for, and 10 or more where no digit is.
+fn digit_at(bytes: &[u8], at: usize) -> u32
+    ensures { λ r. ⌜ DigitRead (getD (now (bytes .entry)) at 0) r ⌝ }
+{
+    if bytes.len() <= at {
+        return 10;
+    }
+    digit_of(bytes[at])
 }
 
 // The number that a digit stands for, and 10 or more for any other byte: those below `0` wrap to large numbers.
@@ -153,6 +156,15 @@ fn digit_of(byte: u8) -> u32
     ensures { λ r. ⌜ DigitRead byte r ⌝ }
 {
     std::num::wrapping_sub_u8(byte, b'0') as u32
+}
+
+fn is_marked(rest: &[u8]) -> bool
+    ensures { λ r. ⌜ r ≡ isMark (getD (now (rest .entry)) 0 0) ⌝ }
+{
+    if rest.len() == 0 {
+        return false;
+    }
+    is_mark(rest[0])
 }
 
 fn is_mark(byte: u8) -> bool

@@ -3,6 +3,7 @@ use libc::STDOUT_FILENO;
 
 mod levels;
 mod numbers;
+mod records;
 mod restoring;
 mod texts;
 
@@ -11,6 +12,7 @@ fn main() {
     texts::run();
     levels::run();
     restoring::run();
+    records::run();
 }
 
 // Prints bytes as they are.

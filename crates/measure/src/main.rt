@@ -1,5 +1,5 @@
 // Runs one call as often as the input says, so that bench/steps can count its instructions.
-// The input's first byte says which call, its second how often, a digit; a text follows.
+// The input's first byte says which call, its second how often, a digit; a text or a record follows.
 use libc::STDIN_FILENO;
 use libc::STDOUT_FILENO;
 ghost use mathlib.Core.Path.{_≡_};
@@ -23,6 +23,15 @@ fn run(input: &[u8]) {
     if call == b'r' {
         restore(times);
     }
+    if call == b'd' {
+        read_record(&input[2..], times);
+    }
+    if call == b's' {
+        read_slot(&input[2..], times);
+    }
+    if call == b'c' {
+        check(&input[2..], times);
+    }
 }
 
 // Reads the text that often; the number of slots is printed.
@@ -36,6 +45,7 @@ fn read_text(text: &[u8], times: u8) {
         done += 1;
     }
     print(slots as u64);
+    print_above_zero(&setpoints);
 }
 
 // Restores 512 slots from a term at every node, that often; the sum of the refusals is printed.
@@ -58,6 +68,7 @@ fn repeat_restore(nodes: &[u16], values: &[i16], times: u8)
         done += 1;
     }
     print(refusals);
+    print_above_zero(&setpoints);
 }
 
 // Numbers the nodes from 1 on.
@@ -67,6 +78,76 @@ fn fill(nodes: &mut [u16]) {
         nodes[i] = (i % 65535 + 1) as u16;
         i += 1;
     }
+}
+
+// Reads the record that often; the sum of the refusals is printed.
+fn read_record(bytes: &[u8], times: u8) {
+    let mut nodes = [0u16; 1023];
+    let mut values = [0i16; 1023];
+    let mut refusals: u64 = 0;
+    let mut done = 0;
+    while done < times {
+        let header = record_read::read_record(bytes, &mut nodes, &mut values);
+        refusals += header.refusal as u64;
+        done += 1;
+    }
+    print(refusals);
+    print_above_zero(&values);
+    print_sum(&nodes);
+}
+
+// Restores the record's sum slot that often; the sum of the refusals is printed.
+fn read_slot(bytes: &[u8], times: u8) {
+    let mut refusals: u64 = 0;
+    let mut done = 0;
+    while done < times {
+        let answer = record_check::read_slot(bytes, 511);
+        refusals += answer.refusal as u64;
+        done += 1;
+    }
+    print(refusals);
+}
+
+// Checks 512 setpoints of 0 against the record that often; the sum of the refusals is printed.
+fn check(bytes: &[u8], times: u8) {
+    let setpoints = [0i16; 512];
+    let mut refusals: u64 = 0;
+    let mut done = 0;
+    while done < times {
+        let answer = record_check::check_record(&setpoints, bytes);
+        refusals += answer.refusal as u64;
+        done += 1;
+    }
+    print(refusals);
+}
+
+// Prints how many numbers lie above 0, so that no store to them can be left out.
+fn print_above_zero(numbers: &[i16]) {
+    let mut count = 0;
+    let mut i = 0;
+    while i < numbers.len() {
+        let number = numbers[i];
+        if 0 < number {
+            count += 1;
+        }
+        i += 1;
+    }
+    print(count);
+}
+
+// The same for nodes: their sum, in 16 bits.
+fn print_sum(nodes: &[u16]) {
+    let mut sum = 0;
+    let mut i = 0;
+    while i < nodes.len() {
+        sum = (sum + wide(nodes[i]) % 65536) % 65536;
+        i += 1;
+    }
+    print(sum);
+}
+
+fn wide(node: u16) -> u64 {
+    node as u64
 }
 
 fn print(number: u64) {

@@ -1,8 +1,9 @@
 // One line of a profile text: its number, and how many bytes it takes with the byte 10 that ends it.
-use decimal::read::read_number;
+use decimal::read::read_front;
 ghost use mathlib.Core.Path.{_≡_};
-ghost use lib.ListN.{length};
-ghost use Rattle.profile.specs.Text.{line, valueRefusal, bandRefusal};
+ghost use lib.Dec.{eqb};
+ghost use lib.ListN.{getD};
+ghost use Rattle.profile.specs.Text.{valueRefusal, bandRefusal};
 ghost use Rattle.profile.specs.Inner.{LineRead, noCheck};
 
 // The number of a line and the line's length in bytes, or a refusal.
@@ -48,6 +49,7 @@ pub fn read_band(text: &[u8]) -> LineAnswer
     line
 }
 
+// The byte 10 has to follow the number at the front.
 fn read_line(text: &[u8]) -> LineAnswer
     ensures { λ r. ⌜ LineRead noCheck (now (text .entry)) (r .refusal) (r .number) (r .count) ⌝ }
 {
@@ -58,32 +60,28 @@ fn read_line(text: &[u8]) -> LineAnswer
             count: 0,
         };
     }
-    let end = line_end(text);
-    if end == text.len() {
+    let front = read_front(text);
+    let count = front.count;
+    if is_end(text, count) {
         return LineAnswer {
-            refusal: 1,
-            number: 0,
-            count: 0,
+            refusal: 0,
+            number: front.number,
+            count: count + 1,
         };
     }
-    let number = read_number(&text[..end]);
     LineAnswer {
-        refusal: number.refusal,
-        number: number.number,
-        count: end + 1,
+        refusal: 1,
+        number: 0,
+        count: 0,
     }
 }
 
-// The place of the first byte 10, or the text's length where there is none.
-fn line_end(text: &[u8]) -> usize
-    ensures { λ r. ⌜ r ≡ length (line (now (text .entry))) ⌝ }
+// Whether the byte 10 stands at a place.
+fn is_end(text: &[u8], at: usize) -> bool
+    ensures { λ r. ⌜ r ≡ eqb (getD (now (text .entry)) at 0) 10 ⌝ }
 {
-    let mut end = 0;
-    while end < text.len() {
-        if text[end] == 10 {
-            return end;
-        }
-        end += 1;
+    if text.len() <= at {
+        return false;
     }
-    end
+    text[at] == 10
 }

@@ -1,6 +1,6 @@
 -- `measure::read_text` is safe and ends. The invariant: the room keeps its length.
 use mathlib.Core.Path.{_≡_}
-use Prim.Native.Nat.{_-_}
+use Prim.Native.Nat.{_*_, _-_, _≤_, _<_}
 use lib.ListN.{length}
 use borrow.Author.Needs.{needs}
 use Rattle.measure.proofs.read_text.Statement.{statement}
@@ -33,6 +33,12 @@ loop-again c = search needs
 print-requires : tie.Need-print-requires Inv-loop μ-loop
 print-requires c κs = search needs
 
+slice-aggregate-print-above-zero : tie.Need-slice-aggregate-print-above-zero Inv-loop μ-loop
+slice-aggregate-print-above-zero c = search needs
+
+print-above-zero-requires : tie.Need-print-above-zero-requires Inv-loop μ-loop
+print-above-zero-requires c κs = search needs
+
 returns : tie.Need-returns Inv-loop μ-loop
 returns c = search needs
 
@@ -49,4 +55,6 @@ read-text-spec =
     loop-less
     loop-again
     print-requires
+    slice-aggregate-print-above-zero
+    print-above-zero-requires
     returns)

@@ -1,6 +1,6 @@
 -- `measure::repeat_restore` is safe and ends. The invariant: the room keeps its length, and the sum of the refusals stays small.
 use mathlib.Core.Path.{_≡_}
-use Prim.Native.Nat.{_*_, _-_, _≤_}
+use Prim.Native.Nat.{_*_, _-_, _≤_, _<_}
 use lib.ListN.{length}
 use borrow.Author.Needs.{needs}
 use Rattle.measure.proofs.repeat_restore.Statement.{statement}
@@ -39,6 +39,12 @@ loop-again c = search needs
 print-requires : tie.Need-print-requires Inv-loop μ-loop
 print-requires c κs = search needs
 
+slice-aggregate-print-above-zero : tie.Need-slice-aggregate-print-above-zero Inv-loop μ-loop
+slice-aggregate-print-above-zero c = search needs
+
+print-above-zero-requires : tie.Need-print-above-zero-requires Inv-loop μ-loop
+print-above-zero-requires c κs = search needs
+
 returns : tie.Need-returns Inv-loop μ-loop
 returns c = search needs
 
@@ -57,4 +63,6 @@ repeat-restore-spec =
     loop-less
     loop-again
     print-requires
+    slice-aggregate-print-above-zero
+    print-above-zero-requires
     returns)
