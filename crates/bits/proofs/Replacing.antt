@@ -51,3 +51,16 @@ replaced-behind place field front back =
     ap (λ (n : ℕ). drop n (front ++ back)) (add-assoc (length front) place (length field)) ∙ drop-append-add front back (place + length field) in
     ap₂ (λ (l m : List ℕ). l ++ (field ++ m)) (take-append-add front back place) beyond
     ∙ append-assoc front (take place back) (field ++ drop (place + length field) back)
+
+-- two fields written one behind the other are one field
+pub replaced-both : (place next : ℕ) (first second before : List ℕ) → place ≤ length before → place + length first ≡ next
+    → replacedAt next second (replacedAt place first before) ≡ replacedAt place (first ++ second) before
+replaced-both place next first second before inside follows =
+    let front : List ℕ = take place before ++ first in
+    let front-long : length front ≡ next = simp length-append (omega (arith, length-take-le place before inside)) in
+    let further : next + length second ≡ place + length (first ++ second) = simp length-append (omega arith) in
+    ap (λ (l : List ℕ). replacedAt next second (take place before ++ (first ++ l))) (ap (λ (k : ℕ). drop k before) follows)
+    ∙ ap (λ (l : List ℕ). replacedAt next second l) (sym (append-assoc (take place before) first (drop next before)))
+    ∙ replaced-next next second front before front-long
+    ∙ ap (λ (k : ℕ). (front ++ second) ++ drop k before) further
+    ∙ simp append-assoc

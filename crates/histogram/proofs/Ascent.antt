@@ -63,6 +63,15 @@ node-above (node ∷ nodes) (value ∷ values) same valid zero within = first-ab
 node-above (node ∷ nodes) (value ∷ values) same valid (suc q) within =
     omega (arith, first-above valid, node-above nodes values (omega arith) (rest-valid valid) q (omega arith))
 
+-- and below the end
+pub node-below : {last end : ℕ} (nodes : List ℕ) (values : List ℤ) → length nodes ≡ length values → last < end → ValidFrom last end (paired nodes values)
+    → (k : ℕ) → getD nodes k 0 < end
+unfolding paired
+node-below [] values same some valid k = omega arith
+node-below (node ∷ nodes) [] same some valid k = absurd (omega arith)
+node-below (node ∷ nodes) (value ∷ values) same some valid zero = first-below valid
+node-below (node ∷ nodes) (value ∷ values) same some valid (suc k) = node-below nodes values (omega arith) (first-below valid) (rest-valid valid) k
+
 -- a valid list's nodes ascend strictly
 pub ascends : {last end : ℕ} (nodes : List ℕ) (values : List ℤ) → length nodes ≡ length values → ValidFrom last end (paired nodes values) → Ascending nodes
 unfolding paired

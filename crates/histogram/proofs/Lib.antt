@@ -9,5 +9,4 @@ pub mod Order
 pub mod Paired
 pub mod Powers
 pub mod Refusals
-pub mod Signed
 pub mod Table

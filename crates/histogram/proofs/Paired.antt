@@ -1,7 +1,7 @@
 -- Terms that are lent as two lists of equal length, seen from a place on: the term there, and what the test and the look-up do with it.
-use mathlib.Core.Path.{_≡_, ap}
+use mathlib.Core.Path.{_≡_, refl, ap}
 use mathlib.Core.Bool.{not, cond, _&&_}
-use mathlib.Core.List.{List, _∷_}
+use mathlib.Core.List.{List, [], _∷_}
 use Prim.Native.Nat.{ℕ, suc, _<_}
 use native.Mathlib.Omega.{arith}
 use lib.Dec.{ltb, eqb}
@@ -11,6 +11,13 @@ use lib.Seq.{drop-cons}
 use Rattle.limits.specs.Limits.{beyond}
 use Rattle.histogram.specs.declared.Term.{Term}
 use Rattle.histogram.specs.Terms.{paired, validFrom, termOr}
+
+-- as many terms as nodes
+pub length-paired : (nodes : List ℕ) (values : List ℤ) → length nodes ≡ length values → length (paired nodes values) ≡ length nodes
+unfolding paired
+length-paired [] values same = refl
+length-paired (node ∷ nodes) [] same = absurd (omega arith)
+length-paired (node ∷ nodes) (value ∷ values) same = ap suc (length-paired nodes values (omega arith))
 
 -- the terms from a place on
 abbrev pub onwards : List ℕ → List ℤ → ℕ → List Term

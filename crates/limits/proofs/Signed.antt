@@ -1,4 +1,5 @@
--- Signed numbers as a function sees them: a number in a local is the number, and its magnitude is reached by turning the sign.
+-- Signed numbers as a function sees them: a number in a local or a slice is the number, also after it was widened or narrowed,
+-- and its magnitude is reached by turning the sign.
 use mathlib.Core.Path.{_≡_, refl, sym, ap, _∙_, subst}
 use mathlib.Core.Bool.{Bool, true, false}
 use Prim.Native.Nat.{ℕ, zero, suc, _+_, _<_, _≤_, _^_}
@@ -35,7 +36,21 @@ not-below (negsuc n) e = subst T e tt
 pub element : (z : ℤ) → mag z < 2 ^ 15 → toZ w16 (ofZ w16 z) ≡ z
 element z h = toZ-ofZ (record { sfits = h })
 
+-- it fits 32 bits, and read there it is the element
+pub wider-fits : (z : ℤ) → mag z < 2 ^ 15 → SFits w32 (toZ w16 (ofZ w16 z))
+wider-fits z small = rw (element z small) (sfits-widen {w = w16} tt (record { sfits = small }))
+
+pub wider : (z : ℤ) → mag z < 2 ^ 15 → toZ w32 (ofZ w32 (toZ w16 (ofZ w16 z))) ≡ z
+wider z small = widened-to w16 w32 tt (record { sfits = small })
+
 -- a value within ±20,000 fits 16 bits
 pub within-fits : (z : ℤ) → natAbs z ≤ 20000 → SFits w16 z
 within-fits (pos n) small = record { sfits = omega arith }
 within-fits (negsuc n) small = record { sfits = omega arith }
+
+-- also as it stands in 32 bits, and read there it is the value
+pub narrower-fits : {z : ℤ} → SFits w32 z → natAbs z ≤ 20000 → SFits w16 (toZ w32 (ofZ w32 z))
+narrower-fits {z} fits within = rw (toZ-ofZ fits) (within-fits z within)
+
+pub narrower : {z : ℤ} → SFits w32 z → natAbs z ≤ 20000 → toZ w16 (ofZ w16 (toZ w32 (ofZ w32 z))) ≡ z
+narrower {z} fits within = rw (toZ-ofZ fits, toZ-ofZ (within-fits z within))

@@ -11,7 +11,8 @@ use lib.ListN.{length, take, drop, replicate, length-append, length-drop}
 use lib.Seq.{drop-at, drop-drop}
 use borrow.Author.Tests.{le-leb, le-ltb, eq-eqb, eqb-true, leb-true, ltb-false, not-false}
 use Rattle.limits.specs.Limits.{beyond, outsideBand, outsideSlots}
-use Rattle.limits.proofs.Refusals.{passed, passed-last, slots-within}
+use Rattle.limits.specs.Answers.{_when_, _then_}
+use Rattle.limits.proofs.Refusals.{none-of-two, passed, passed-last, slots-within}
 use Rattle.bits.specs.Bits.{bits, numberOf, bitsOf, fieldAt, packed}
 use Rattle.bits.specs.Signed.{complement, signedOf}
 use Rattle.bits.specs.Inner.{Below, SignedBits}
@@ -26,7 +27,7 @@ use Rattle.histogram.specs.Terms.{valid}
 use Rattle.histogram.proofs.Ascent.{ValidFrom, first-above, first-below, first-within, rest-valid}
 use Rattle.histogram.proofs.Powers.{height-reaches, padded-bound}
 use Rattle.record.specs.Record.{headerBits, termBits, termsBits, recordBits, recordLength, recordBytes, versionIn, slotsIn, bandIn, restIn, countIn, firstTerm, termsFrom, termsIn, fillIn, wellFormed}
-use Rattle.record.specs.Answers.{synopsisRefusal, recordRefusal}
+use Rattle.record.specs.Answers.{synopsisRefusal, headerRefusal, recordRefusal}
 use Rattle.record.proofs.Tests.{both-left, both-right}
 use Rattle.record.proofs.Pieces.{field-read, next-field, field-in-front, signed-in-front, zeros, number-of-zeros}
 
@@ -121,9 +122,8 @@ module _ (bytes : List ℕ) where
         eqb-true (fillIn bytes) 0 (both-right byte-count fill-zero after-version),
       )
 
-  -- "a record that is accepted is byte for byte what writing its terms and header produces"
-  pub accepted-is-written : Below 256 bytes → wellFormed bytes ≡ true → bytes ≡ recordBytes (slotsIn bytes) (bandIn bytes) (restIn bytes) (termsIn bytes)
-  accepted-is-written all-bytes right =
+  pub well-formed-is-written : Below 256 bytes → wellFormed bytes ≡ true → bytes ≡ recordBytes (slotsIn bytes) (bandIn bytes) (restIn bytes) (termsIn bytes)
+  well-formed-is-written all-bytes right =
       let parts = well-formed-parts right in
       let count-is : length (termsIn bytes) ≡ countIn bytes = length-from (countIn bytes) (drop 55 (bitsOf bytes)) in
       let long : length (bitsOf bytes) ≡ 8 * length bytes = length-bits-of bytes in
@@ -138,6 +138,12 @@ module _ (bytes : List ℕ) where
       (packed-below (recordLength (length (termsIn bytes))) written (record-below (slotsIn bytes) (bandIn bytes) (restIn bytes) (termsIn bytes)))
       (sym (written-bits (slotsIn bytes) (bandIn bytes) (restIn bytes) (termsIn bytes) ∙ ap (λ (l : List ℕ). written ++ l) (sym fill-is)
       ∙ fields-in-front (omega (arith, parts .0)) (parts .1) (omega (arith, parts .2))))
+
+  -- "a record that is accepted is byte for byte what writing its terms and header produces"
+  pub accepted-is-written : Below 256 bytes → recordRefusal bytes ≡ 0 → bytes ≡ recordBytes (slotsIn bytes) (bandIn bytes) (restIn bytes) (termsIn bytes)
+  accepted-is-written all-bytes none =
+      let header-right = none-of-two (headerRefusal bytes) _ none .0 in
+      well-formed-is-written all-bytes (not-false (wellFormed bytes) (passed 6 (not (wellFormed bytes)) (2 when beyond 20000 (restIn bytes) then 3 when ltb 40000 (bandIn bytes)) header-right .0))
 
 -- ---- writing and then reading gives the same header and terms
 

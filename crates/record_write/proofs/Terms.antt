@@ -13,7 +13,7 @@ use Rattle.histogram.specs.Terms.{paired}
 use Rattle.histogram.proofs.Paired.{onwards, termAt, term-there}
 use Rattle.record.specs.Record.{termBits, termsBits}
 use Rattle.record_write.specs.Inner.{TermPut}
-use Rattle.record_write.proofs.Adjacent.{replaced-both}
+use Rattle.bits.proofs.Replacing.{replaced-both}
 
 -- the first i terms are written: the others, written from `place` on, give what all of them give from bit 55 on
 pub record WrittenSoFar (nodes : List ℕ) (values : List ℤ) (before now : List ℕ) (place i : ℕ) : Type 0 where

@@ -9,7 +9,7 @@ use mir.Val.{SFits, Fits, toZ, ofZ}
 use mir.Facts.{toZ-ofZ}
 use Rattle.limits.specs.Limits.{outsideSlots}
 use Rattle.bits.proofs.Bytes.{field-below}
-use Rattle.histogram.proofs.Signed.{narrower, narrower-fits}
+use Rattle.limits.proofs.Signed.{narrower, narrower-fits}
 use Rattle.record.specs.Record.{bandIn}
 use Rattle.record_read.proofs.Accepted as Accepted
 use Rattle.record_check.proofs.Checks as Checks

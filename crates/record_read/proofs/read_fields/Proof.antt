@@ -8,7 +8,7 @@ use mir.Val.{SFits, toZ, ofZ}
 use mir.Facts.{toZ-ofZ, sfits-widen}
 use mir.ValLaws.{toZ-pos}
 use Rattle.bits.proofs.Bytes.{field-below}
-use Rattle.bits.proofs.Signs.{widened}
+use Rattle.limits.proofs.Signed.{widened-to}
 use Rattle.record.specs.Record.{slotsIn, bandIn, restIn}
 use Rattle.record_read.proofs.Frames.{rest-wrong, band-wrong, fields-right}
 use borrow.Author.Needs.{needs}
@@ -46,7 +46,7 @@ returns : tie.Need-returns
 returns c =
     let bytes = c .before .before .before .before .before .before .args .bytes .now in
     let r = c .refused .ensures in
-    let test = rw (widened (rest-fits (c .before .before .before)), rest-read (c .before .before .before)) at (c .before .before .is-beyond .ensures) in
+    let test = rw (widened-to w16 w32 tt (rest-fits (c .before .before .before)), rest-read (c .before .before .before)) at (c .before .before .is-beyond .ensures) in
     rw (r .0, r .1, r .2, r .3, r .4) (rest-wrong bytes (c .before .before .before .before .before .before .args .count) (sym test ∙ c .before .if1 .taken))
 
 read-requires : tie.Need-read-requires
@@ -65,7 +65,7 @@ returns-2 : tie.Need-returns-2
 returns-2 c =
     let bytes = c .before .before .before .before .before .before .before .before .before .args .bytes .now in
     let r = c .refused2 .ensures in
-    let rest-test = rw (widened (rest-fits (c .before .before .before .before .before .before)), rest-read (c .before .before .before .before .before .before)) at (c .before .before .before .before .before .is-beyond .ensures) in
+    let rest-test = rw (widened-to w16 w32 tt (rest-fits (c .before .before .before .before .before .before)), rest-read (c .before .before .before .before .before .before)) at (c .before .before .before .before .before .is-beyond .ensures) in
     let band-test = rw (band-read (c .before .before .before)) at (c .before .before .is-outside-band .ensures) in
     rw (r .0, r .1, r .2, r .3, r .4) (band-wrong bytes (c .before .before .before .before .before .before .before .before .before .args .count) (sym rest-test ∙ c .before .before .before .before .if1 .left) (sym band-test ∙ c .before .if2 .taken))
 
@@ -81,10 +81,10 @@ add-slots c = search needs
 returns-3 : tie.Need-returns-3
 returns-3 c =
     let bytes = c .before .before .before .before .before .before .before .before .before .args .bytes .now in
-    let rest-test = rw (widened (rest-fits (c .before .before .before .before .before .before)), rest-read (c .before .before .before .before .before .before)) at (c .before .before .before .before .before .is-beyond .ensures) in
+    let rest-test = rw (widened-to w16 w32 tt (rest-fits (c .before .before .before .before .before .before)), rest-read (c .before .before .before .before .before .before)) at (c .before .before .before .before .before .is-beyond .ensures) in
     let band-test = rw (band-read (c .before .before .before)) at (c .before .before .is-outside-band .ensures) in
     let length-read = rw (c .before .before .before .before .before .before .before .places .ensures .of-length) at (c .read2 .ensures) in
-    rw (widened (rest-fits (c .before .before .before .before .before .before)), rest-read (c .before .before .before .before .before .before), band-read (c .before .before .before), length-read)
+    rw (widened-to w16 w32 tt (rest-fits (c .before .before .before .before .before .before)), rest-read (c .before .before .before .before .before .before), band-read (c .before .before .before), length-read)
     (fields-right bytes (c .before .before .before .before .before .before .before .before .before .args .count) (sym rest-test ∙ c .before .before .before .before .if1 .left) (sym band-test ∙ c .before .if2 .left))
 
 pub read-fields-spec : {M : Type 1} → statement M

@@ -11,7 +11,7 @@ use Rattle.bits.specs.Signed.{complement}
 use Rattle.bits.proofs.Fields.{length-bits}
 use Rattle.bits.proofs.Complement.{signed-bits}
 use Rattle.record.specs.Record.{headerBits}
-use Rattle.record_write.proofs.Adjacent.{replaced-both}
+use Rattle.bits.proofs.Replacing.{replaced-both}
 use borrow.Author.Needs.{needs}
 use Rattle.record_write.proofs.put_header.Statement.{statement}
 use Rattle.record_write.proofs.put_header.Tie as tie

@@ -4,7 +4,7 @@ use lib.ListN.{length}
 use mir.Facts.{toZ-ofZ}
 use Rattle.bits.proofs.Numbers.{bytes-below}
 use Rattle.histogram.specs.Terms.{paired}
-use Rattle.record_write.proofs.Paired.{length-paired}
+use Rattle.histogram.proofs.Paired.{length-paired}
 use Rattle.record_write.proofs.Whole.{record-laid}
 use borrow.Author.Needs.{needs}
 use Rattle.record_write.proofs.put_record.Statement.{statement}

@@ -12,7 +12,7 @@ use Rattle.bits.proofs.Fields.{length-bits}
 use Rattle.bits.proofs.Bytes.{length-bits-of}
 use Rattle.bits.proofs.Complement.{signed-bits}
 use Rattle.record.specs.Record.{termBits}
-use Rattle.record_write.proofs.Adjacent.{replaced-both}
+use Rattle.bits.proofs.Replacing.{replaced-both}
 use borrow.Author.Needs.{needs}
 use Rattle.record_write.proofs.put_term.Statement.{statement}
 use Rattle.record_write.proofs.put_term.Tie as tie

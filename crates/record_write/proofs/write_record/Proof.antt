@@ -13,10 +13,11 @@ use Rattle.limits.proofs.Refusals.{first-counts, granted-nothing}
 use Rattle.bits.proofs.Packing.{length-packed}
 use Rattle.histogram.specs.declared.Term.{Term}
 use Rattle.histogram.specs.Terms.{paired}
-use Rattle.histogram.proofs.Signed.{narrower, narrower-fits}
+use Rattle.limits.proofs.Signed.{narrower, narrower-fits}
 use Rattle.record.specs.Record.{recordBits, recordLength, recordBytes}
 use Rattle.record.specs.Answers.{synopsisRefusal, RecordWritten}
-use Rattle.record_write.proofs.Paired.{length-paired, node-below}
+use Rattle.histogram.proofs.Paired.{length-paired}
+use Rattle.histogram.proofs.Ascent.{node-below}
 use Rattle.record_write.proofs.Refusals.{Accepted, accepted}
 use borrow.Author.Needs.{needs}
 use Rattle.record_write.proofs.write_record.Statement.{statement}

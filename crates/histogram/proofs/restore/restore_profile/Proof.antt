@@ -20,7 +20,7 @@ use Rattle.histogram.proofs.Counted.{counted-part}
 use Rattle.histogram.proofs.Powers.{height-reaches, padded-bound}
 use Rattle.limits.proofs.Refusals.{first-counts, granted-nothing}
 use Rattle.histogram.proofs.Refusals.{Accepted, accepted}
-use Rattle.histogram.proofs.Signed.{narrower, narrower-fits}
+use Rattle.limits.proofs.Signed.{narrower, narrower-fits}
 use Rattle.histogram.proofs.restore.restore_profile.Statement.{statement}
 use Rattle.histogram.proofs.restore.restore_profile.Tie as tie
 

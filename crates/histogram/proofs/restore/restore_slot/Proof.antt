@@ -18,7 +18,7 @@ use Rattle.histogram.proofs.Ascent.{ascends}
 use Rattle.histogram.proofs.Powers.{padded-bound}
 use Rattle.limits.proofs.Refusals.{first-counts, granted-nothing}
 use Rattle.histogram.proofs.Refusals.{Accepted, accepted}
-use Rattle.histogram.proofs.Signed.{narrower, narrower-fits}
+use Rattle.limits.proofs.Signed.{narrower, narrower-fits}
 use Rattle.histogram.proofs.restore.restore_slot.Statement.{statement}
 use Rattle.histogram.proofs.restore.restore_slot.Tie as tie
 
