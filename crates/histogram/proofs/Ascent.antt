@@ -7,7 +7,7 @@ use native.Mathlib.Omega.{arith}
 use lib.Dec.{T, ltb, ltb→lt, lt→ltb, nltb→le}
 use lib.IntN.{ℤ, natAbs}
 use lib.ListN.{length, getD}
-use borrow.Author.Tests.{ne-eqb}
+use borrow.Author.Tests.{ne-eqb, le-ltb}
 use Rattle.limits.specs.Limits.{beyond}
 use Rattle.histogram.specs.declared.Term.{Term}
 use Rattle.histogram.specs.Terms.{paired, validFrom, termOr}
@@ -45,6 +45,16 @@ module _ {last end : ℕ} {term : Term} {terms : List Term} (valid : ValidFrom l
   valid-above bound below = record {
     passes = both-of (ltb bound (term .node)) _ (lt→ltb bound (term .node) below) (second-of (ltb last (term .node)) _ (valid .passes));
   }
+
+-- a term between the bounds and within ±20,000, before a list that is valid above it
+pub valid-before : {last end : ℕ} (term : Term) {terms : List Term} → last < term .node → term .node < end → natAbs (term .value) ≤ 20000 → ValidFrom (term .node) end terms
+    → ValidFrom last end (term ∷ terms)
+unfolding validFrom
+valid-before {last} {end} term above below within valid = record {
+  passes =
+      both-of (ltb last (term .node)) _ (lt→ltb last (term .node) above)
+      (both-of (ltb (term .node) end) _ (lt→ltb (term .node) end below) (both-of (not (beyond 20000 (term .value))) _ (rw (le-ltb 20000 (natAbs (term .value)) within) tt) (valid .passes)));
+}
 
 pub no-term : {last end : ℕ} (terms : List Term) → ValidFrom last end terms → (otherwise : ℤ) (node : ℕ) → node ≤ last → termOr otherwise terms node ≡ otherwise
 unfolding termOr

@@ -1,0 +1,5 @@
+pub mod Lifted
+pub mod Theory
+pub mod Gathered
+pub mod Exists
+pub mod Reduced

@@ -1,0 +1,39 @@
+-- Values lifted by 20,000: the distance of two of them is the absolute difference of the values.
+use mathlib.Core.Path.{_≡_, refl}
+use mathlib.Core.Bool.{Bool, true, false, cond}
+use Prim.Native.Nat.{ℕ, zero, suc, _+_, _-_, _≤_}
+use native.Mathlib.Omega.{arith}
+use lib.Dec.{ltb}
+use lib.IntN.{ℤ, pos, negsuc, _-ℤ_, subℕ, natAbs}
+use borrow.Author.Tests.{ltb-true, ltb-false}
+use Rattle.claims.specs.Inner.{lifted, lowered, distance}
+
+pub lifted-within : (z : ℤ) → natAbs z ≤ 20000 → lifted z ≤ 40000
+lifted-within (pos n) within = omega arith
+lifted-within (negsuc n) within = omega arith
+
+-- the size of a difference of two natural numbers
+size-of-difference : (a b : ℕ) → natAbs (subℕ a b) ≡ (a - b) + (b - a)
+size-of-difference a b = split (ltb a b) refl
+  where
+    split : (test : Bool) → ltb a b ≡ test → natAbs (cond test (negsuc (b - suc a)) (pos (a - b))) ≡ (a - b) + (b - a)
+    split true answer = omega (arith, ltb-true a b answer)
+    split false answer = omega (arith, ltb-false a b answer)
+
+pub distance-lifted : (x y : ℤ) → natAbs x ≤ 20000 → natAbs y ≤ 20000 → natAbs (x -ℤ y) ≡ distance (lifted x) (lifted y)
+distance-lifted (pos a) (pos zero) x-within y-within = omega arith
+distance-lifted (pos a) (pos (suc b)) x-within y-within = omega (arith, size-of-difference a (suc b))
+distance-lifted (pos a) (negsuc b) x-within y-within = omega arith
+distance-lifted (negsuc a) (pos zero) x-within y-within = omega (arith, size-of-difference 0 (suc a))
+distance-lifted (negsuc a) (pos (suc b)) x-within y-within = omega arith
+distance-lifted (negsuc a) (negsuc b) x-within y-within = omega (arith, size-of-difference (suc b) (suc a))
+
+pub lifted-lowered : (number : ℕ) → lifted (lowered number) ≡ number
+lifted-lowered number = split (ltb number 20000) refl
+  where
+    split : (test : Bool) → ltb number 20000 ≡ test → lifted (cond test (negsuc (20000 - suc number)) (pos (number - 20000))) ≡ number
+    split true answer = let below = ltb-true number 20000 answer in omega arith
+    split false answer = let from = ltb-false number 20000 answer in omega arith
+
+pub lowered-within : (number : ℕ) → number ≤ 40000 → natAbs (lowered number) ≤ 20000
+lowered-within number within = omega (arith, size-of-difference number 20000)

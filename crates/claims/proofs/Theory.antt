@@ -1,0 +1,124 @@
+-- A synopsis of a profile and the theory of fewest terms: the same lists are meant, the same setpoints restored, the same bands kept.
+use mathlib.Core.Path.{_≡_, refl, sym, ap, _∙_, subst}
+use mathlib.Core.Bool.{Bool, true, false, cond}
+use mathlib.Core.List.{List, [], _∷_}
+use mathlib.Core.Option.{some}
+use Prim.Native.Nat.{ℕ, zero, suc, _+_, _-_, _*_, _/_, _^_, _≤_, _<_}
+use native.Mathlib.Omega.{arith}
+use lib.Dec.{T, leb, eqb, leb→le, le→leb}
+use lib.IntN.{ℤ, natAbs}
+use lib.Pow.{pow-pos}
+use lib.ListN.{length}
+use Rattle.histogram.specs.declared.Term.{Term}
+use Rattle.histogram.specs.Tree.{height, padded, IsLevel, levelOf}
+use Rattle.histogram.specs.Terms.{Valid, termOr}
+use Rattle.histogram.specs.Restored.{restored, restoredSlot, pathNodes}
+use Rattle.histogram.specs.Errors.{setpointOf, slotError, Keeps}
+use Rattle.histogram.proofs.Ascent.{ValidFrom, first-above, first-below, first-within, rest-valid}
+use Rattle.histogram.proofs.Above.{path-of-node}
+use Rattle.histogram.proofs.Powers.{level-rule, level-only}
+use Rattle.fewest.specs.Node.{placed}
+use Rattle.fewest.specs.Tree.{binary, ancestor}
+use Rattle.fewest.specs.Walk.{restoredFrom}
+use Rattle.fewest.specs.Walk as Theory
+use Rattle.fewest.specs.Terms.{lookup, Listed}
+use Rattle.fewest.proofs.Binary.{number-in-tree, number-at-level, level-from, level-below}
+use Rattle.claims.specs.Inner.{lifted, distance, accepts, termNode, termValue, InRange}
+use Rattle.claims.proofs.Lifted.{lifted-within, distance-lifted}
+
+-- the value of the term at a node, lifted
+lifted-term : (otherwise : ℤ) (terms : List Term) (node : ℕ) → lifted (termOr otherwise terms node) ≡ placed (lookup termNode termValue terms node) (lifted otherwise)
+unfolding termOr lookup
+lifted-term otherwise [] node = refl
+lifted-term otherwise (term ∷ terms) node = split (eqb (term .node) node) (lifted-term otherwise terms node)
+  where
+    split : (test : Bool) → lifted (termOr otherwise terms node) ≡ placed (lookup termNode termValue terms node) (lifted otherwise)
+        → lifted (cond test (term .value) (termOr otherwise terms node)) ≡ placed (cond test (some (lifted (term .value))) (lookup termNode termValue terms node)) (lifted otherwise)
+    split true later = refl
+    split false later = later
+
+-- the value restored from a node up, lifted
+lifted-restored : (rest : ℤ) (terms : List Term) (count node : ℕ)
+    → lifted (restored rest terms count node) ≡ restoredFrom binary (lookup termNode termValue terms) (lifted rest) count node
+unfolding restored restoredFrom binary
+lifted-restored rest terms zero node = refl
+lifted-restored rest terms (suc count) node =
+    lifted-term (restored rest terms count (node / 2)) terms node
+    ∙ ap (λ (above : ℕ). placed (lookup termNode termValue terms node) above) (lifted-restored rest terms count (node / 2))
+
+-- a valid list is one that the theory means
+listed-from : (height last end : ℕ) → end ≤ 2 ^ suc height → (terms : List Term) → ValidFrom last end terms → Listed termNode termValue binary height 40000 last terms
+unfolding Listed
+listed-from height last end in-tree [] valid = tt
+listed-from height last end in-tree (term ∷ terms) valid = (
+  first-above valid,
+  number-in-tree height (term .node) (omega (arith, first-above valid)) (omega (arith, first-below valid)),
+  lifted-within (term .value) (first-within valid),
+  listed-from height (term .node) end in-tree terms (rest-valid valid),
+)
+
+pub valid-is-listed : (n : ℕ) (terms : List Term) → Valid n terms → Listed termNode termValue binary (height n) 40000 0 terms
+valid-is-listed n terms valid = listed-from (height n) 0 (2 * 2 ^ height n) (omega arith) terms (record { passes = valid })
+
+-- the value of a term of a valid list is within ±20,000
+term-within : {last end : ℕ} (otherwise : ℤ) (terms : List Term) (node : ℕ) → ValidFrom last end terms → natAbs otherwise ≤ 20000 → natAbs (termOr otherwise terms node) ≤ 20000
+unfolding termOr
+term-within otherwise [] node valid within = within
+term-within otherwise (term ∷ terms) node valid within = split (eqb (term .node) node) (term-within otherwise terms node (rest-valid valid) within)
+  where
+    split : (test : Bool) → natAbs (termOr otherwise terms node) ≤ 20000 → natAbs (cond test (term .value) (termOr otherwise terms node)) ≤ 20000
+    split true later = first-within valid
+    split false later = later
+
+-- and so is what is restored from it
+restored-within : {last end : ℕ} (rest : ℤ) (terms : List Term) → ValidFrom last end terms → natAbs rest ≤ 20000 → (count node : ℕ) → natAbs (restored rest terms count node) ≤ 20000
+unfolding restored
+restored-within rest terms valid within zero node = within
+restored-within rest terms valid within (suc count) node =
+    term-within (restored rest terms count (node / 2)) terms node valid (restored-within rest terms valid within count (node / 2))
+
+-- a leaf of the tree over n slots has its height as its level
+leaf-level : (levels node : ℕ) → 2 ^ levels ≤ node → node < 2 ^ suc levels → pathNodes node ≡ suc levels
+leaf-level levels node from below =
+    let some-node : 1 ≤ node = omega (arith, pow-pos levels) in
+    path-of-node node some-node ∙ ap suc (level-only (level-rule node some-node) (record { reached = from; next-not = below }))
+
+module _ {profile : List ℤ} {rest : ℤ} (in-range : InRange profile rest) (terms : List Term) (valid : Valid (length profile) terms) where
+  -- the error of a slot is the distance at its leaf
+  error-at-leaf : (slot : ℕ) → slot < padded (length profile)
+      → slotError profile rest terms slot
+      ≡ distance (lifted (setpointOf profile slot)) (restoredFrom binary (lookup termNode termValue terms) (lifted rest) (suc (height (length profile))) (padded (length profile) + slot))
+  error-at-leaf slot in-tree =
+      let leaf : ℕ = padded (length profile) + slot in
+      let path : pathNodes leaf ≡ suc (height (length profile)) = leaf-level (height (length profile)) leaf (omega arith) (omega arith) in
+      distance-lifted (setpointOf profile slot) (restored rest terms (pathNodes leaf) leaf) (in-range .setpoints-within slot)
+      (restored-within rest terms (record { passes = valid }) (in-range .rest-within) (pathNodes leaf) leaf)
+      ∙ ap (λ (value : ℕ). distance (lifted (setpointOf profile slot)) value)
+      (lifted-restored rest terms (pathNodes leaf) leaf ∙ ap (λ (count : ℕ). restoredFrom binary (lookup termNode termValue terms) (lifted rest) count leaf) path)
+
+  -- what keeps a band keeps it in the theory
+  pub keeps-in-theory : (band : ℕ) → Keeps profile rest terms band
+      → Theory.Keeps binary (accepts profile band) (height (length profile)) (lifted rest) (lookup termNode termValue terms)
+  keeps-in-theory band keeps = record { each-leaf = at-leaf }
+    where
+      at-leaf : (leaf : ℕ) → ancestor binary (height (length profile)) leaf ≡ 1
+          → T (accepts profile band leaf (restoredFrom binary (lookup termNode termValue terms) (lifted rest) (suc (height (length profile))) leaf))
+      at-leaf leaf under-root =
+          let slot : ℕ = leaf - padded (length profile) in
+          let from : padded (length profile) ≤ leaf = level-from (height (length profile)) leaf under-root in
+          let in-tree : slot < padded (length profile) = omega (arith, level-below (height (length profile)) leaf under-root) in
+          let same : padded (length profile) + slot ≡ leaf = omega arith in
+          let within = rw (error-at-leaf slot in-tree, same) at (keeps .every-slot slot in-tree) in
+          le→leb _ band within
+
+  -- and what keeps a band in the theory keeps it
+  pub keeps-from-theory : (band : ℕ) → Theory.Keeps binary (accepts profile band) (height (length profile)) (lifted rest) (lookup termNode termValue terms)
+      → Keeps profile rest terms band
+  keeps-from-theory band keeps = record { every-slot = at-slot }
+    where
+      at-slot : (slot : ℕ) → slot < padded (length profile) → slotError profile rest terms slot ≤ band
+      at-slot slot in-tree =
+          let leaf : ℕ = padded (length profile) + slot in
+          let same : leaf - padded (length profile) ≡ slot = omega arith in
+          let accepted = rw same at (keeps .each-leaf leaf (number-at-level (height (length profile)) leaf (omega arith) (omega arith))) in
+          rw (error-at-leaf slot in-tree) (leb→le _ band accepted)

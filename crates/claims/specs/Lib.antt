@@ -1,0 +1,3 @@
+pub mod Best
+pub mod LeastBand
+pub mod Inner

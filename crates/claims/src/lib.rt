@@ -1,0 +1,1 @@
+// What building and the least band promise, as definitions: see specs/. No code.

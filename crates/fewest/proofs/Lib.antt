@@ -1,0 +1,13 @@
+pub mod Total
+pub mod Best
+pub mod LowerBound
+pub mod Reached
+pub mod Path
+pub mod Pointwise
+pub mod Occurrence
+pub mod Length
+pub mod Fewest
+pub mod Binary
+pub mod Rows
+pub mod Meeting
+pub mod Wider
