@@ -12,7 +12,7 @@ use lib.ListN.{length}
 use Rattle.histogram.specs.declared.Term.{Term}
 use Rattle.histogram.specs.Tree.{height}
 use Rattle.histogram.specs.Errors.{greatestError}
-use Rattle.histogram.proofs.Expected.{greatest-keeps}
+use Rattle.histogram.proofs.Expected.{keeps-greatest, greatest-keeps}
 use Rattle.histogram.proofs.Order.{below-or-not}
 use Rattle.fewest.specs.Tree.{binary}
 use Rattle.fewest.proofs.Fewest.{keeping-needs-fewest}
@@ -46,21 +46,43 @@ module _ {profile : List ℤ} {rest : ℤ} (in-range : InRange profile rest) whe
   pub budget-needs : {budget band : ℕ} → CanKeep profile rest budget band → fewestTerms profile rest band ≤ budget
   budget-needs can = omega (arith, synopsis-needs (can .synopsis), can .within-budget)
 
+  -- a synopsis that keeps a band keeps its own greatest error, and every band from there on
+  keeps-from-error : {band : ℕ} {terms : List Term} → KeepingSynopsis profile rest band terms
+      → (other : ℕ) → greatestError profile rest terms ≤ other → KeepingSynopsis profile rest other terms
+  keeps-from-error {band} {terms} synopsis other from = record { valid = synopsis .valid; keeps = greatest-keeps profile rest terms other from }
+
+  error-needs : {band : ℕ} {terms : List Term} → KeepingSynopsis profile rest band terms → fewestTerms profile rest (greatestError profile rest terms) ≤ length terms
+  error-needs {band} {terms} synopsis = synopsis-needs (keeps-from-error synopsis (greatestError profile rest terms) (omega arith))
+
   pub best-synopsis : {band : ℕ} {terms : List Term} → KeepingSynopsis profile rest band terms → length terms ≡ fewestTerms profile rest band
       → (0 < greatestError profile rest terms → length terms < fewestTerms profile rest (greatestError profile rest terms - 1)) → Best profile rest band terms
   best-synopsis {band} {terms} synopsis as-few needs-more = record {
     synopsis = synopsis;
     fewest = λ other keeping. omega (arith, as-few, synopsis-needs keeping);
     least-error = λ other keeping as-many.
+        let error : ℕ = greatestError profile rest other in
         ⊎-elim
-        (λ smaller. absurd (omega (arith, all-below profile rest (greatestError profile rest terms) (length terms) needs-more (greatestError profile rest other) smaller, as-many, synopsis-needs (own-error other keeping))))
+        (λ smaller. absurd (omega (arith, all-below profile rest (greatestError profile rest terms) (length terms) needs-more error smaller, as-many, error-needs keeping)))
         (λ not-smaller. not-smaller)
-        (below-or-not (greatestError profile rest other) (greatestError profile rest terms));
+        (below-or-not error (greatestError profile rest terms));
   }
-    where
-      -- a synopsis keeps its own greatest error
-      own-error : (other : List Term) → KeepingSynopsis profile rest band other → KeepingSynopsis profile rest (greatestError profile rest other) other
-      own-error other keeping = record { valid = keeping .valid; keeps = greatest-keeps profile rest other (greatestError profile rest other) (omega arith) }
+
+  -- the greatest error of a synopsis that keeps a band, where every narrower band needs more terms than it has, is that band
+  pub error-is-band : {error : ℕ} {terms : List Term} → KeepingSynopsis profile rest error terms
+      → (0 < error → length terms < fewestTerms profile rest (error - 1)) → greatestError profile rest terms ≡ error
+  error-is-band {error} {terms} synopsis needs-more =
+      let within = keeps-greatest profile rest terms error (synopsis .keeps) in
+      ⊎-elim
+      (λ below. absurd (omega (arith, all-below profile rest error (length terms) needs-more (greatestError profile rest terms) below, error-needs synopsis)))
+      (λ not-below. omega arith)
+      (below-or-not (greatestError profile rest terms) error)
+
+  -- so a smallest synopsis for the least band that needs as few terms as the band given is a best one
+  pub best-at-least-error : {band error : ℕ} {terms : List Term} → error ≤ band → KeepingSynopsis profile rest error terms → length terms ≡ fewestTerms profile rest error
+      → fewestTerms profile rest error ≤ fewestTerms profile rest band → (0 < error → length terms < fewestTerms profile rest (error - 1)) → Best profile rest band terms
+  best-at-least-error {band} {error} {terms} narrower synopsis as-few no-more needs-more =
+      let same : greatestError profile rest terms ≡ error = error-is-band synopsis needs-more in
+      best-synopsis (keeps-from-error synopsis band (omega arith)) (omega (arith, as-few, wider-band profile rest error band narrower)) (rw same needs-more)
 
   pub least-band : {budget least : ℕ} → fewestTerms profile rest least ≤ budget → (0 < least → budget < fewestTerms profile rest (least - 1)) → LeastBand profile rest budget least
   least-band {budget} {least} within needs-more = record {

@@ -26,6 +26,7 @@ distance a b = (a - b) + (b - a)
 abbrev pub accepts : List ℤ → ℕ → ℕ → ℕ → Bool
 accepts profile band leaf value = leb (distance (lifted (setpointOf profile (leaf - padded (length profile)))) value) band
 
+-- a term's node and its value, as the theory takes them
 abbrev pub termNode : Term → ℕ
 termNode term = term .node
 
