@@ -3,3 +3,4 @@ pub mod Theory
 pub mod Gathered
 pub mod Exists
 pub mod Reduced
+pub mod Widest

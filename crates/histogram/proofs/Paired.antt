@@ -10,7 +10,7 @@ use lib.ListN.{length, getD, drop}
 use lib.Seq.{drop-cons}
 use Rattle.limits.specs.Limits.{beyond}
 use Rattle.histogram.specs.declared.Term.{Term}
-use Rattle.histogram.specs.Terms.{paired, validFrom, termOr}
+use Rattle.histogram.specs.Terms.{paired, nodesOf, valuesOf, validFrom, termOr}
 
 -- as many terms as nodes
 pub length-paired : (nodes : List ℕ) (values : List ℤ) → length nodes ≡ length values → length (paired nodes values) ≡ length nodes
@@ -43,3 +43,9 @@ module _ (nodes : List ℕ) (values : List ℤ) (place : ℕ) (same : length nod
       ≡ cond (eqb (getD nodes place 0) node) (getD values place (pos 0)) (termOr otherwise (onwards nodes values (suc place)) node)
   unfolding termOr
   lookup-there otherwise node = ap (λ (terms : List Term). termOr otherwise terms node) term-there
+
+-- terms taken apart and paired again
+pub paired-again : (terms : List Term) → paired (nodesOf terms) (valuesOf terms) ≡ terms
+unfolding paired
+paired-again [] = refl
+paired-again (term ∷ terms) = ap (λ (l : List Term). term ∷ l) (paired-again terms)

@@ -1,6 +1,6 @@
 -- Lists of terms: document 01, "The setpoint in a slot", and row 8 of "What the panel turns away". For the auditor.
 use mathlib.Core.Bool.{Bool, true, false, not, cond, _&&_}
-use mathlib.Core.List.{List, [], _∷_}
+use mathlib.Core.List.{List, [], _∷_, map}
 use Prim.Native.Nat.{ℕ, _*_}
 use lib.Dec.{T, ltb, eqb}
 use lib.IntN.{ℤ}
@@ -13,6 +13,13 @@ unfoldable pub paired : List ℕ → List ℤ → List Term
 paired [] values = []
 paired (node ∷ nodes) [] = []
 paired (node ∷ nodes) (value ∷ values) = record { node = node; value = value } ∷ paired nodes values
+
+-- the nodes and the values of terms, as two lists
+abbrev pub nodesOf : List Term → List ℕ
+nodesOf terms = map (λ (term : Term). term .node) terms
+
+abbrev pub valuesOf : List Term → List ℤ
+valuesOf terms = map (λ (term : Term). term .value) terms
 
 -- strictly ascending nodes above `last` and below `end`, and values within ±20,000
 unfoldable pub validFrom : ℕ → ℕ → List Term → Bool

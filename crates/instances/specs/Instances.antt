@@ -4,31 +4,74 @@ use mathlib.Core.List.{List, [], _∷_}
 use mathlib.Core.Option.{some}
 use Prim.Native.Nat.{ℕ}
 use lib.IntN.{ℤ, pos, negsuc}
+use lib.ListN.{length}
 use Rattle.limits.specs.Answers.{_when_}
 use Rattle.decimal.specs.Number.{readsAs}
 use Rattle.decimal.specs.Answers.{isNone}
+use Rattle.histogram.specs.declared.Term.{Term}
+use Rattle.histogram.specs.Errors.{greatestError}
+use Rattle.claims.specs.Best.{Best}
+use Rattle.claims.specs.LeastBand.{LeastBand}
 
 pub data Instance : Type 0 where
   -- a field and the value in hundredths that it gives
-  gives : List ℕ → ℤ → Instance
+  gives : (field : List ℕ) (value : ℤ) → Instance
   -- a field and the number it is refused with
-  refused : List ℕ → ℕ → Instance
+  refused : (field : List ℕ) (number : ℕ) → Instance
+  -- a profile, its rest value and a band, and the number of terms and the greatest error of a best synopsis
+  builds : (profile : List ℤ) (rest : ℤ) (band count error : ℕ) → Instance
+  -- a profile, its rest value and a budget of terms, and the least band for it
+  leastBand : (profile : List ℤ) (rest : ℤ) (budget band : ℕ) → Instance
+
+-- a list of so many terms, with such a greatest error
+pub record CountAndError (profile : List ℤ) (rest : ℤ) (count error : ℕ) (terms : List Term) : Type 0 where
+  pub count-is : length terms ≡ count
+  pub error-is : greatestError profile rest terms ≡ error
+
+-- some best synopsis has that count and that error, and so has every best one
+pub record BestHave (profile : List ℤ) (rest : ℤ) (band count error : ℕ) : Type 0 where
+  pub terms : List Term
+  pub best : Best profile rest band terms
+  pub has : CountAndError profile rest count error terms
+  pub every : (other : List Term) → Best profile rest band other → CountAndError profile rest count error other
 
 -- what an instance says of the definitions
 abbrev pub Holds : Instance → Type 0
 Holds (gives field value) = readsAs field ≡ some value
 Holds (refused field number) = 1 when isNone (readsAs field) ≡ number
+Holds (builds profile rest band count error) = BestHave profile rest band count error
+Holds (leastBand profile rest budget band) = LeastBand profile rest budget band
 
+-- what every instance of a list says
 abbrev pub AllHold : List Instance → Type 0
 AllHold [] = Unit {0}
 AllHold (one ∷ others) = Holds one × AllHold others
 
--- `14,50`, `14,5`, `14`, `-0,05` and `14,`
+-- one slot of setpoint 5
+abbrev pub five : List ℤ
+five = pos 5 ∷ []
+
+-- four slots of setpoints 0, 100, 0 and 100
+abbrev pub hundreds : List ℤ
+hundreds = pos 0 ∷ pos 100 ∷ pos 0 ∷ pos 100 ∷ []
+
+-- the table: each row's instances under its words
 abbrev pub starred : List Instance
 starred =
+    -- the fields `14,50`, `14,5`, `14`, `-0,05` and `14,`
     gives (49 ∷ 52 ∷ 44 ∷ 53 ∷ 48 ∷ []) (pos 1450)
     ∷ gives (49 ∷ 52 ∷ 44 ∷ 53 ∷ []) (pos 1450)
     ∷ gives (49 ∷ 52 ∷ []) (pos 1400)
     ∷ gives (45 ∷ 48 ∷ 44 ∷ 48 ∷ 53 ∷ []) (negsuc 4)
     ∷ refused (49 ∷ 52 ∷ 44 ∷ []) 1
+    -- "one slot 5, rest 0, band 5 / 4": "0 terms, error 5 / 1 term, error 0"
+    ∷ builds five (pos 0) 5 0 5
+    ∷ builds five (pos 0) 4 1 0
+    -- "0, 100, 0, 100, rest 0, band 50 / 49": "1 term, error 50 / 2 terms, error 0"
+    ∷ builds hundreds (pos 0) 50 1 50
+    ∷ builds hundreds (pos 0) 49 2 0
+    -- "that profile, budget 0 / 1 / 2": "100 / 50 / 0"
+    ∷ leastBand hundreds (pos 0) 0 100
+    ∷ leastBand hundreds (pos 0) 1 50
+    ∷ leastBand hundreds (pos 0) 2 0
     ∷ []

@@ -5,12 +5,22 @@ use Prim.Native.Nat.{ℕ, suc, _+_, _<_, _≤_}
 use native.Mathlib.Numerals.{add-one}
 use native.Mathlib.Omega.{arith}
 use lib.ListN.{length, getD, take, drop, set, length-append, length-drop, length-set}
-use lib.Seq.{drop-cons, set-at, append-snoc, take-suc, take-all, length-take-le}
+use lib.Seq.{drop-cons, set-at, append-snoc, take-suc, take-all, take-at, drop-at, length-take-le}
 use Rattle.limits.specs.Answers.{laid}
 
 module _ {ℓ} {A : Type ℓ} where
   pub length-laid : (written before : List A) → length written ≤ length before → length (laid written before) ≡ length before
   length-laid written before fits = simp (length-append, length-drop) (omega arith)
+
+  -- the front of a list over which another was laid, and what lies past it
+  pub front-of : (written before : List A) (count : ℕ) → length written ≡ count → take count (laid written before) ≡ written
+  front-of written before count long = take-at written (drop (length written) before) count long
+
+  pub past-front : (written before : List A) (count : ℕ) → length written ≡ count → drop count (laid written before) ≡ drop count before
+  past-front written before count long = drop-at written (drop (length written) before) count long ∙ ap (λ (n : ℕ). drop n before) long
+
+  pub room-for : (written before : List A) → length written ≤ length (laid written before)
+  room-for written before = simp length-append (omega arith)
 
   pub laid-more : (written before : List A) (a : A) → length written < length before
       → set (laid written before) (length written) a ≡ laid (written ++ (a ∷ [])) before

@@ -1,3 +1,4 @@
+pub mod Beyond
 pub mod Laying
 pub mod Parts
 pub mod Refusals

@@ -3,7 +3,7 @@ ghost use mathlib.Core.Path.{_≡_};
 ghost use Prim.Native.Nat.{_≤_};
 ghost use lib.IntN.{natAbs};
 ghost use lib.ListN.{length};
-ghost use Rattle.limits.specs.Limits.{beyond, outsideBand, outsideSlots};
+ghost use Rattle.limits.specs.Limits.{beyond, outsideBand, outsideSlots, anyBeyond};
 ghost use Rattle.limits.specs.Answers.{laid};
 
 // The limit of setpoints, rest values and term values, in hundredths either way.
@@ -49,6 +49,21 @@ pub fn is_outside_slots(slots: usize) -> bool
         return true;
     }
     512 < slots
+}
+
+// Whether a setpoint lies beyond ±20,000.
+pub fn is_any_beyond(setpoints: &[i16]) -> bool
+    ensures { λ r. ⌜ r ≡ anyBeyond (now (setpoints .entry)) ⌝ }
+{
+    let mut i = 0;
+    while i < setpoints.len() {
+        let setpoint = setpoints[i];
+        if is_beyond(VALUE_LIMIT, setpoint as i32) {
+            return true;
+        }
+        i += 1;
+    }
+    false
 }
 
 // Lays the numbers of `source` over the front of `destination`.

@@ -1,7 +1,7 @@
 -- The answers of writing and reading a record. For the auditor.
 use mathlib.Core.Path.{_≡_}
 use mathlib.Core.Bool.{not}
-use mathlib.Core.List.{List, [], map}
+use mathlib.Core.List.{List, []}
 use Prim.Native.Nat.{ℕ}
 use lib.Dec.{ltb}
 use lib.IntN.{ℤ, pos, natAbs}
@@ -9,7 +9,7 @@ use lib.ListN.{length}
 use Rattle.limits.specs.Answers.{_when_, _then_, granted, laid}
 use Rattle.limits.specs.Limits.{beyond, outsideBand, outsideSlots}
 use Rattle.histogram.specs.declared.Term.{Term}
-use Rattle.histogram.specs.Terms.{valid}
+use Rattle.histogram.specs.Terms.{nodesOf, valuesOf, valid}
 use Rattle.record.specs.Record.{recordLength, recordBytes, slotsIn, bandIn, restIn, countIn, termsIn, wellFormed}
 
 -- what is wrong with a header and terms to be written: 4, 2, 3, 8
@@ -45,13 +45,6 @@ pub record HeaderOf (bytes : List ℕ) (refusal slots : ℕ) (band rest : ℤ) (
   pub band-is : band ≡ granted refusal (pos (bandIn bytes)) (pos 0)
   pub rest-is : rest ≡ granted refusal (restIn bytes) (pos 0)
   pub count-is : count ≡ granted refusal (countIn bytes) 0
-
--- the nodes and the values of terms, as two lists
-abbrev pub nodesOf : List Term → List ℕ
-nodesOf terms = map (λ (term : Term). term .node) terms
-
-abbrev pub valuesOf : List Term → List ℤ
-valuesOf terms = map (λ (term : Term). term .value) terms
 
 -- a record read into destinations for the nodes and the values of its terms
 pub record RecordRead (bytes : List ℕ) (refusal slots : ℕ) (band rest : ℤ) (count : ℕ) (nodes nodes′ : List ℕ) (values values′ : List ℤ) : Type 0 where

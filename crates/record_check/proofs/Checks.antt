@@ -8,14 +8,14 @@ use lib.Dec.{T, eqb}
 use lib.IntN.{ℤ, pos, natAbs}
 use lib.ListN.{length, take}
 use borrow.Author.Tests.{eq-eqb, ne-eqb, ltb-false}
-use Rattle.limits.specs.Limits.{beyond, outsideSlots}
+use Rattle.limits.specs.Limits.{outsideSlots, anyBeyond}
 use Rattle.limits.proofs.Refusals.{first-counts, slots-within}
 use Rattle.histogram.specs.Terms.{paired, valid}
 use Rattle.record.specs.Record.{slotsIn, bandIn, restIn, termsIn}
 use Rattle.record.specs.Answers.{recordRefusal}
 use Rattle.record_read.specs.Inner.{RoomRead}
 use Rattle.record_read.proofs.Accepted as Accepted
-use Rattle.record_check.specs.Checking.{anyBeyond, checkRefusal, Verdict, Checked}
+use Rattle.record_check.specs.Checking.{checkRefusal, Verdict, Checked}
 use Rattle.record_check.specs.Inner.{Judgeable}
 use Rattle.record_check.proofs.Slots.{sound, room-terms}
 

@@ -9,8 +9,7 @@ use lib.Dec.{T, leb, ltb, eqb}
 use lib.IntN.{ℤ, pos, natAbs, _-ℤ_}
 use lib.ListN.{length, getD, take, drop, length-take, length-drop, List·getD-eq-default}
 use lib.Seq.{getD-take, getD-drop}
-use borrow.Author.Tests.{ltb-false}
-use Rattle.limits.specs.Limits.{beyond}
+use Rattle.limits.proofs.Beyond.{within-all}
 use Rattle.histogram.specs.declared.Term.{Term}
 use Rattle.histogram.specs.Tree.{padded}
 use Rattle.histogram.specs.Terms.{paired, valid, termOr}
@@ -20,21 +19,9 @@ use Rattle.histogram.specs.Inner.{HandedDown}
 use Rattle.histogram.proofs.Ascent.{ValidFrom, first-within, rest-valid}
 use Rattle.histogram.proofs.Order.{below-or-not}
 use Rattle.histogram.proofs.Powers.{padded-bound}
-use Rattle.record_check.specs.Checking.{anyBeyond, Verdict}
+use Rattle.record_check.specs.Checking.{Verdict}
 use Rattle.record_check.specs.Inner.{difference, Comparable, Compared, Judgeable}
 use Rattle.record_check.proofs.Verdicts.{every-same, lowest-same, greatest-same}
-
--- every setpoint lies within ±20,000 where none lies beyond
-within-all : (profile : List ℤ) → T (not (anyBeyond profile)) → (k : ℕ) → natAbs (getD profile k (pos 0)) ≤ 20000
-unfolding anyBeyond
-within-all [] none k = omega arith
-within-all (setpoint ∷ profile) none k = by-test (beyond 20000 setpoint) refl none k (within-all profile)
-  where
-    by-test : (far : Bool) → beyond 20000 setpoint ≡ far → T (not (far || anyBeyond profile)) → (k : ℕ)
-        → (T (not (anyBeyond profile)) → (j : ℕ) → natAbs (getD profile j (pos 0)) ≤ 20000) → natAbs (getD (setpoint ∷ profile) k (pos 0)) ≤ 20000
-    by-test true is-far impossible k others = absurd impossible
-    by-test false is-near rest zero others = ltb-false 20000 (natAbs setpoint) is-near
-    by-test false is-near rest (suc j) others = others rest j
 
 -- a restored value lies within ±20,000, as the rest value and the terms' values do
 term-within : {last end : ℕ} (otherwise : ℤ) (terms : List Term) (node : ℕ) → ValidFrom last end terms → natAbs otherwise ≤ 20000 → natAbs (termOr otherwise terms node) ≤ 20000

@@ -18,7 +18,7 @@ use Rattle.record.specs.Record.{slotsIn, bandIn, restIn, termsIn, wellFormed}
 use Rattle.record.specs.Answers.{headerRefusal, recordRefusal}
 use Rattle.record_read.specs.Inner.{RoomRead}
 use Rattle.record_read.proofs.Accepted as Accepted
-use Rattle.record_read.proofs.Rooms.{paired-again}
+use Rattle.histogram.proofs.Paired.{paired-again}
 use Rattle.record_check.specs.Checking.{SlotRead}
 
 -- a record's slots are those of a profile

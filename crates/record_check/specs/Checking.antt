@@ -8,7 +8,7 @@ use lib.Dec.{leb, ltb, eqb}
 use lib.IntN.{ℤ, pos}
 use lib.ListN.{length}
 use Rattle.limits.specs.Answers.{_when_, _then_, granted}
-use Rattle.limits.specs.Limits.{beyond, outsideSlots}
+use Rattle.limits.specs.Limits.{outsideSlots, anyBeyond}
 use Rattle.histogram.specs.declared.Term.{Term}
 use Rattle.histogram.specs.Tree.{padded}
 use Rattle.histogram.specs.Restored.{restoredSlot}
@@ -24,11 +24,6 @@ slotRefusal bytes slot = recordRefusal bytes then 10 when leb (slotsIn bytes) sl
 pub record SlotRead (bytes : List ℕ) (slot refusal : ℕ) (setpoint : ℤ) : Type 0 where
   pub refusal-is : refusal ≡ slotRefusal bytes slot
   pub setpoint-is : setpoint ≡ granted refusal (restoredSlot (slotsIn bytes) (restIn bytes) (termsIn bytes) slot) (pos 0)
-
--- row 2 of setpoints: whether one lies beyond ±20,000
-unfoldable pub anyBeyond : List ℤ → Bool
-anyBeyond [] = false
-anyBeyond (setpoint ∷ setpoints) = beyond 20000 setpoint || anyBeyond setpoints
 
 -- "Check: 4, 7, 2, 3, 8, then 2 for the setpoints, 9"
 abbrev pub checkRefusal : List ℤ → List ℕ → ℕ

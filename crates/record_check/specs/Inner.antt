@@ -6,9 +6,10 @@ use Prim.Native.Nat.{ℕ, _≤_, _<_}
 use lib.Dec.{T, leb, ltb}
 use lib.IntN.{ℤ, pos, _-ℤ_, natAbs}
 use lib.ListN.{length, getD}
+use Rattle.limits.specs.Limits.{anyBeyond}
 use Rattle.histogram.specs.Terms.{paired, valid}
 use Rattle.histogram.specs.Errors.{setpointOf, greatest}
-use Rattle.record_check.specs.Checking.{anyBeyond, every, lowest}
+use Rattle.record_check.specs.Checking.{every, lowest}
 
 -- the difference of a setpoint and what stands in its slot
 abbrev pub difference : List ℤ → List ℤ → ℕ → ℕ

@@ -8,7 +8,7 @@ ghost use mathlib.Core.Path.{_≡_};
 ghost use mathlib.Core.Bool.{false};
 ghost use Prim.Native.Nat.{min, max};
 ghost use Rattle.histogram.specs.Terms.{paired};
-ghost use Rattle.record_check.specs.Checking.{SlotRead, anyBeyond, Checked, Verdict};
+ghost use Rattle.record_check.specs.Checking.{SlotRead, Checked, Verdict};
 ghost use Rattle.record_check.specs.Inner.{Comparable, Compared, InSlot, ErrorIs, Judgeable};
 
 // The setpoint restored in one slot of a record.
@@ -55,7 +55,7 @@ pub fn check_record(setpoints: &[i16], bytes: &[u8]) -> CheckAnswer
     if 0 < header.refusal {
         return refused(header.refusal);
     }
-    if is_any_beyond(setpoints) {
+    if limits::is_any_beyond(setpoints) {
         return refused(2);
     }
     if header.slots != setpoints.len() {
@@ -132,21 +132,6 @@ fn larger(one: u32, other: u32) -> u32
     ensures { λ r. ⌜ r ≡ max one other ⌝ }
 {
     if one < other { other } else { one }
-}
-
-// Whether a setpoint lies beyond ±20,000.
-fn is_any_beyond(setpoints: &[i16]) -> bool
-    ensures { λ r. ⌜ r ≡ anyBeyond (now (setpoints .entry)) ⌝ }
-{
-    let mut i = 0;
-    while i < setpoints.len() {
-        let setpoint = setpoints[i];
-        if limits::is_beyond(limits::VALUE_LIMIT, setpoint as i32) {
-            return true;
-        }
-        i += 1;
-    }
-    false
 }
 
 fn refused(refusal: u8) -> CheckAnswer

@@ -7,13 +7,14 @@ use lib.IntN.{ℤ, pos}
 use lib.ListN.{length, take, drop}
 use borrow.Author.Tests.{lt-ltb, le-ltb}
 use Rattle.limits.specs.Answers.{_when_, _then_, granted, laid}
+use Rattle.limits.proofs.Laying.{front-of, room-for}
 use Rattle.limits.proofs.Refusals.{first-counts, granted-nothing, none-of-two}
 use Rattle.bits.specs.Bits.{bitsOf}
+use Rattle.histogram.specs.Terms.{nodesOf, valuesOf}
 use Rattle.record.specs.Record.{slotsIn, bandIn, restIn, countIn, termsIn}
-use Rattle.record.specs.Answers.{headerRefusal, recordRefusal, nodesOf, valuesOf, RecordRead}
+use Rattle.record.specs.Answers.{headerRefusal, recordRefusal, RecordRead}
 use Rattle.record_read.specs.Inner.{RoomRead}
 use Rattle.record_read.proofs.Frames.{no-header}
-use Rattle.record_read.proofs.Rooms.{front-of, room-for}
 use Rattle.record_read.proofs.Terms.{nodes-long, values-long}
 
 module _ (bytes : List ℕ) (refusal slots : ℕ) (band rest : ℤ) (count : ℕ) (nodes nodes′ : List ℕ) (values values′ : List ℤ)

@@ -6,35 +6,24 @@ use Prim.Native.Nat.{ℕ, _+_, _*_, _≤_, _<_}
 use native.Mathlib.Omega.{arith}
 use lib.Dec.{ltb}
 use lib.IntN.{ℤ, pos}
-use lib.ListN.{length, take, drop, length-append}
-use lib.Seq.{take-at}
+use lib.ListN.{length, take, drop}
 use borrow.Author.Tests.{not-false}
 use Rattle.limits.specs.Answers.{_when_, _then_, granted, laid}
 use Rattle.limits.specs.Limits.{beyond}
+use Rattle.limits.proofs.Laying.{front-of, room-for}
 use Rattle.limits.proofs.Refusals.{first-counts, granted-nothing, passed}
 use Rattle.bits.specs.Bits.{bitsOf}
 use Rattle.bits.proofs.Bytes.{field-below}
 use Rattle.histogram.specs.declared.Term.{Term}
 use Rattle.histogram.specs.Tree.{padded}
-use Rattle.histogram.specs.Terms.{paired, validFrom, valid}
+use Rattle.histogram.specs.Terms.{paired, nodesOf, valuesOf, validFrom, valid}
+use Rattle.histogram.proofs.Paired.{paired-again}
 use Rattle.record.specs.Record.{recordLength, slotsIn, bandIn, restIn, countIn, termsFrom, termsIn, wellFormed}
-use Rattle.record.specs.Answers.{headerRefusal, recordRefusal, nodesOf, valuesOf, HeaderOf}
+use Rattle.record.specs.Answers.{headerRefusal, recordRefusal, HeaderOf}
 use Rattle.record.proofs.RoundTrips.{well-formed-parts}
 use Rattle.record_read.specs.Inner.{Framed, HeaderRead, TermsRead, RoomRead}
 use Rattle.record_read.proofs.Frames.{no-header}
 use Rattle.record_read.proofs.Terms.{nodes-long, values-long}
-
-pub paired-again : (terms : List Term) → paired (nodesOf terms) (valuesOf terms) ≡ terms
-unfolding paired
-paired-again [] = refl
-paired-again (term ∷ terms) = ap (λ (l : List Term). term ∷ l) (paired-again terms)
-
--- the front of a list over which another was laid
-pub front-of : {A : Type 0} (written before : List A) (count : ℕ) → length written ≡ count → take count (laid written before) ≡ written
-front-of written before count long = take-at written (drop (length written) before) count long
-
-pub room-for : {A : Type 0} (written before : List A) → length written ≤ length (laid written before)
-room-for written before = simp length-append (omega arith)
 
 module _ (bytes : List ℕ) (refusal slots : ℕ) (band rest : ℤ) (count : ℕ) (read : HeaderRead bytes refusal slots band rest count) where
   pub header-wrong : (nodes : List ℕ) (values : List ℤ) → 0 < refusal → RoomRead bytes refusal slots band rest count nodes nodes values values

@@ -10,7 +10,7 @@ use Rattle.limits.proofs.Laying.{LaidSoFar}
 use Rattle.bits.specs.Bits.{numberOf, bitsOf, fieldAt}
 use Rattle.bits.specs.Signed.{signedOf}
 use Rattle.record.specs.Record.{termsFrom}
-use Rattle.record.specs.Answers.{nodesOf, valuesOf}
+use Rattle.histogram.specs.Terms.{nodesOf, valuesOf}
 use Rattle.record.proofs.RoundTrips.{length-from}
 
 pub nodes-long : (count : ℕ) (field : List ℕ) → length (nodesOf (termsFrom count field)) ≡ count

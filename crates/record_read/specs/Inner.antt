@@ -9,8 +9,9 @@ use lib.ListN.{length, drop}
 use Rattle.limits.specs.Answers.{_when_, _then_, granted, laid}
 use Rattle.limits.specs.Limits.{beyond}
 use Rattle.bits.specs.Bits.{numberOf, bitsOf}
+use Rattle.histogram.specs.Terms.{nodesOf, valuesOf}
 use Rattle.record.specs.Record.{recordLength, slotsIn, bandIn, restIn, countIn, termsFrom, termsIn, wellFormed}
-use Rattle.record.specs.Answers.{headerRefusal, recordRefusal, HeaderOf, nodesOf, valuesOf}
+use Rattle.record.specs.Answers.{headerRefusal, recordRefusal, HeaderOf}
 
 -- a record read into room for 1,023 terms, as the calls take it that have no destination to refuse; the room holds the terms where the header is not refused
 pub record RoomRead (bytes : List ℕ) (refusal slots : ℕ) (band rest : ℤ) (count : ℕ) (nodes nodes′ : List ℕ) (values values′ : List ℤ) : Type 0 where

@@ -1,4 +1,4 @@
--- `record_check::is_any_beyond` meets its contract. The invariant: none before i lies beyond, so the rest decides.
+-- `limits::is_any_beyond` meets its contract. The invariant: none before i lies beyond, so the rest decides.
 use mathlib.Core.Path.{_≡_, refl, sym, _∙_}
 use mathlib.Core.Bool.{true, false}
 use mathlib.Core.List.{List, [], _∷_}
@@ -13,11 +13,10 @@ use borrow.Author.Needs.{needs}
 use mir.Syntax.{w16, w32}
 use mir.Val.{SFits}
 use mir.Facts.{toZ-ofZ, sfits-widen}
-use Rattle.limits.specs.Limits.{beyond}
+use Rattle.limits.specs.Limits.{beyond, anyBeyond}
 use Rattle.limits.proofs.Signed.{widened-to}
-use Rattle.record_check.specs.Checking.{anyBeyond}
-use Rattle.record_check.proofs.is_any_beyond.Statement.{statement}
-use Rattle.record_check.proofs.is_any_beyond.Tie as tie
+use Rattle.limits.proofs.is_any_beyond.Statement.{statement}
+use Rattle.limits.proofs.is_any_beyond.Tie as tie
 
 none-left : anyBeyond [] ≡ false
 unfolding anyBeyond

@@ -1,0 +1,122 @@
+-- From what was built over the tree to a best synopsis of the profile, handed over.
+use mathlib.Core.Path.{_≡_, refl, sym, ap, ap₂, subst, _∙_}
+use mathlib.Core.List.{List}
+use Prim.Native.Nat.{ℕ, suc, _-_, _≤_, _<_}
+use native.Mathlib.Omega.{arith}
+use lib.IntN.{ℤ}
+use lib.ListN.{length, take, drop, length-map}
+use Rattle.limits.proofs.Laying.{front-of, past-front}
+use Rattle.histogram.specs.declared.Term.{Term}
+use Rattle.histogram.specs.Tree.{height, padded}
+use Rattle.histogram.specs.Terms.{paired, nodesOf, valuesOf}
+use Rattle.histogram.specs.Errors.{greatestError}
+use Rattle.histogram.proofs.Paired.{paired-again}
+use Rattle.claims.specs.Best.{Best}
+use Rattle.claims.specs.LeastBand.{LeastBand}
+use Rattle.claims.specs.Inner.{lifted, fewestTerms, InRange}
+use Rattle.claims.proofs.Lifted.{lifted-within}
+use Rattle.claims.proofs.Exists.{walkedTerms, walked-keeps, walked-as-few}
+use Rattle.claims.proofs.Reduced.{best-at-least-error, error-is-band}
+use Rattle.claims.proofs.Reduced as Reduced
+use Rattle.claims.proofs.Widest.{widest-needs-none}
+use Rattle.subtree.specs.Answer.{answer, needed}
+use Rattle.trace.specs.Trace.{upperTerms, Traced}
+use Rattle.trace.proofs.Walked.{upper-terms-walked}
+use Rattle.build.specs.Building.{handedOver}
+use Rattle.build.specs.Inner.{Filled, Searchable, LeastWithin, Acceptable, Buildable, TreeFits, TreeBuilt, BestBuilt}
+use Rattle.build.proofs.Trees.{leaves, leaves-within, leaves-below, leaves-solvable, needed-at, few-needed}
+
+module _ {terms : List Term} {nodes nodes′ : List ℕ} {values values′ : List ℤ} {count : ℕ} (traced : Traced terms nodes nodes′ values values′ count) where
+  as-many-nodes : length (nodesOf terms) ≡ count
+  as-many-nodes = length-map terms _ ∙ sym (traced .count-is)
+
+  as-many-values : length (valuesOf terms) ≡ count
+  as-many-values = length-map terms _ ∙ sym (traced .count-is)
+
+  -- the terms that were traced are those handed over
+  handed-over : handedOver count nodes′ values′ ≡ terms
+  handed-over =
+      let of-nodes : take count nodes′ ≡ nodesOf terms = rw (traced .nodes-are) (front-of (nodesOf terms) nodes count as-many-nodes) in
+      let of-values : take count values′ ≡ valuesOf terms = rw (traced .values-are) (front-of (valuesOf terms) values count as-many-values) in
+      ap₂ paired of-nodes of-values ∙ paired-again terms
+
+  -- and past them both destinations hold what they held
+  nodes-same : drop count nodes′ ≡ drop count nodes
+  nodes-same = rw (traced .nodes-are) (past-front (nodesOf terms) nodes count as-many-nodes)
+
+  values-same : drop count values′ ≡ drop count values
+  values-same = rw (traced .values-are) (past-front (valuesOf terms) values count as-many-values)
+
+module _ (profile : List ℤ) (rest : ℤ) (band : ℕ) (nodes : List ℕ) (values scratch : List ℤ) (buildable : Buildable profile rest band nodes values scratch)
+    (room : List ℤ) (long : 512 ≤ length room) (filled : Filled profile room) where
+  in-range : InRange profile rest
+  in-range = buildable .acceptable .in-range
+
+  few : length profile ≤ 512
+  few = buildable .acceptable .few-slots
+
+  abbrev slots : List ℤ
+  slots = leaves profile room
+
+  -- the terms traced for a band are those that the theory's walk leaves
+  terms-walked : (error : ℕ) → upperTerms error (suc (height (length profile))) (height (length profile)) slots (lifted rest) ≡ walkedTerms in-range error
+  terms-walked error = upper-terms-walked in-range error (leaves-within in-range few room long filled) (leaves-below in-range few room long filled)
+
+  pub tree-fits : TreeFits band (height (length profile)) (lifted rest) slots nodes values scratch
+  tree-fits = record {
+    solvable = leaves-solvable in-range few room long filled band (buildable .band-within) scratch (buildable .acceptable .scratch-long);
+    value-within = lifted-within rest (in-range .rest-within);
+    room = λ error.
+        omega (arith, ap (λ (terms : List Term). length terms) (terms-walked error), walked-as-few in-range error, few-needed in-range few room long filled error, buildable .destination-long);
+    same-room = sym (buildable .same-length);
+  }
+
+  module _ (nodes′ : List ℕ) (values′ : List ℤ) (count error : ℕ)
+      (built : TreeBuilt band (height (length profile)) (lifted rest) slots nodes nodes′ values values′ count error) where
+    terms-are : handedOver count nodes′ values′ ≡ walkedTerms in-range error
+    terms-are = handed-over (built .traced) ∙ terms-walked error
+
+    as-few : fewestTerms profile rest error ≤ fewestTerms profile rest band
+    as-few = omega (arith, built .least .enough, needed-at in-range few room long filled error, needed-at in-range few room long filled band)
+
+    needs-more : 0 < error → length (walkedTerms in-range error) < fewestTerms profile rest (error - 1)
+    needs-more some =
+        omega (
+          arith,
+          built .least .narrower-not some,
+          as-few,
+          walked-as-few in-range error,
+          needed-at in-range few room long filled (error - 1),
+          needed-at in-range few room long filled band,
+        )
+
+    pub best-built : BestBuilt profile rest band 0 count error nodes nodes′ values values′
+    best-built = record {
+      refusal-is = refl;
+      best = subst (Best profile rest band) (sym terms-are)
+          (best-at-least-error in-range (built .least .within-top) (walked-keeps in-range error) (walked-as-few in-range error) as-few needs-more);
+      count-is = built .traced .count-is ∙ ap (λ (terms : List Term). length terms) (sym (handed-over (built .traced)));
+      error-is = sym (ap (greatestError profile rest) terms-are ∙ error-is-band in-range (walked-keeps in-range error) needs-more);
+      nodes-past = nodes-same (built .traced);
+      values-past = values-same (built .traced);
+    }
+
+-- the least band of the tree up to 40,000 is the least band for the budget
+module _ (profile : List ℤ) (rest : ℤ) (budget : ℕ) (scratch : List ℤ) (acceptable : Acceptable profile rest scratch)
+    (room : List ℤ) (long : 512 ≤ length room) (filled : Filled profile room) where
+  abbrev near : InRange profile rest
+  near = acceptable .in-range
+
+  needed-here : (band : ℕ) → needed (answer band (height (length profile)) (leaves profile room)) (lifted rest) ≡ fewestTerms profile rest band
+  needed-here = needed-at near (acceptable .few-slots) room long filled
+
+  pub tree-searchable : Searchable 40000 (height (length profile)) (lifted rest) budget (leaves profile room) scratch
+  tree-searchable = record {
+    solvable = leaves-solvable near (acceptable .few-slots) room long filled 40000 (omega arith) scratch (acceptable .scratch-long);
+    enough = omega (arith, needed-here 40000, widest-needs-none near);
+  }
+
+  pub least-found : (band : ℕ) → LeastWithin 40000 (height (length profile)) (lifted rest) budget (leaves profile room) band
+      → LeastBand profile rest budget band
+  least-found band least =
+      Reduced.least-band near (omega (arith, least .enough, needed-here band)) (λ some. omega (arith, least .narrower-not some, needed-here (band - 1)))

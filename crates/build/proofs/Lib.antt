@@ -1,0 +1,7 @@
+pub mod Accepted
+pub mod Answers
+pub mod Filling
+pub mod Halving
+pub mod Handed
+pub mod OverTree
+pub mod Trees

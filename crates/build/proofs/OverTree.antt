@@ -1,0 +1,51 @@
+-- Building over a tree: the count for the band gives the budget of the search, and the band found the terms to trace.
+use mathlib.Core.Path.{_≡_, subst, _∙_}
+use mathlib.Core.List.{List}
+use Prim.Native.Nat.{ℕ, _≤_}
+use native.Mathlib.Omega.{arith}
+use lib.IntN.{ℤ}
+use lib.ListN.{length}
+use Rattle.subtree.specs.Answer.{answer, needed}
+use Rattle.subtree.specs.Stretch.{Solvable, Counted}
+use Rattle.trace.specs.Trace.{LevelsFit, LevelsTraced}
+use Rattle.build.specs.Inner.{Searchable, LeastWithin, TreeFits, TreeBuilt}
+
+module _ (band height value : ℕ) (setpoints : List ℤ) (nodes : List ℕ) (values before : List ℤ) (fits : TreeFits band height value setpoints nodes values before) where
+  -- a stretch of the same length serves as well
+  pub solvable-later : (later : List ℤ) → length later ≡ length before → Solvable band height setpoints later
+  solvable-later later same-length =
+      let solvable = fits .solvable in
+      record {
+        slots = solvable .slots;
+        setpoints-within = solvable .setpoints-within;
+        band-within = solvable .band-within;
+        in-tree = solvable .in-tree;
+        room = omega (arith, solvable .room);
+      }
+
+  pub searchable : (later : List ℤ) (budget : ℕ) → length later ≡ length before → Counted band height value setpoints later budget
+      → Searchable band height value budget setpoints later
+  searchable later budget same-length counted = record { solvable = solvable-later later same-length; enough = omega (arith, counted .count-is) }
+
+  pub levels-fit : (later : List ℤ) (error count : ℕ) → length later ≡ length before → Counted error height value setpoints later count → LevelsFit later height value nodes values
+  levels-fit later error count same-length counted = record {
+    stretch = record {
+      band = error;
+      setpoints = setpoints;
+      setpoints-within = fits .solvable .setpoints-within;
+      solved = counted .solved;
+      in-tree = fits .solvable .in-tree;
+      long = solvable-later later same-length .room;
+    };
+    value-within = fits .value-within;
+    room = fits .room error;
+    same-room = fits .same-room;
+  }
+
+  pub tree-built : (later last : List ℤ) (budget error again count : ℕ) (nodes′ : List ℕ) (values′ : List ℤ)
+      → Counted band height value setpoints later budget → LeastWithin band height value budget setpoints error → Counted error height value setpoints last again
+      → LevelsTraced last height value nodes nodes′ values values′ count → TreeBuilt band height value setpoints nodes nodes′ values values′ count error
+  tree-built later last budget error again count nodes′ values′ counted least counted-again traced = record {
+    least = subst (λ (number : ℕ). LeastWithin band height value number setpoints error) (counted .count-is) least;
+    traced = traced .each error setpoints (counted-again .solved);
+  }

@@ -1,0 +1,41 @@
+-- `build::refuse_least_band` meets its contract: the tests come in the refusals' order.
+use borrow.Author.Needs.{needs}
+use mathlib.Core.Path.{_≡_, sym, _∙_}
+use native.Mathlib.Omega.{arith}
+use borrow.Author.Tests.{lt-ltb, le-ltb}
+use mir.Facts.{toZ-ofZ}
+use Rattle.limits.proofs.Refusals.{first-counts}
+use Rattle.build.specs.Building.{profileRefusal}
+use Rattle.build.proofs.refuse_least_band.Statement.{statement}
+use Rattle.build.proofs.refuse_least_band.Tie as tie
+
+refuse-profile-requires : tie.Need-refuse-profile-requires
+refuse-profile-requires c κs = search needs
+
+profile-answer : (c : tie.After-refuse-profile) → c .refuse-profile .result ≡ profileRefusal (c .before .args .setpoints .now) (c .before .args .rest)
+profile-answer c = rw (toZ-ofZ (c .before .fits .rest)) at (c .refuse-profile .ensures)
+
+returns : tie.Need-returns
+returns c = sym (rw (← profile-answer (c .before)) (first-counts (c .before .refuse-profile .result) _ (c .if1 .taken)))
+
+profile-right : (c : tie.Else1) → profileRefusal (c .before .before .args .setpoints .now) (c .before .before .args .rest) ≡ 0
+profile-right c =
+    let none : c .before .refuse-profile .result ≡ 0 = omega arith in
+    sym (profile-answer (c .before)) ∙ none
+
+returns-2 : tie.Need-returns-2
+returns-2 c = rw (profile-right (c .before), lt-ltb 1023 (c .before .before .before .args .budget) (omega arith))
+
+returns-3 : tie.Need-returns-3
+returns-3 c =
+    let args = c .before .before .before .before .args in
+    rw (profile-right (c .before .before), le-ltb 1023 (args .budget) (omega arith), lt-ltb (args .numbers) 12288 (omega arith))
+
+returns-4 : tie.Need-returns-4
+returns-4 c =
+    let args = c .before .before .before .before .args in
+    rw (profile-right (c .before .before), le-ltb 1023 (args .budget) (omega arith), le-ltb (args .numbers) 12288 (omega arith))
+
+pub refuse-least-band-spec : {M : Type 1} → statement M
+refuse-least-band-spec =
+    tie.close (tie.spec refuse-profile-requires returns returns-2 returns-3 returns-4)

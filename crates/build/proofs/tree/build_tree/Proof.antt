@@ -1,0 +1,62 @@
+-- `build::tree::build_tree` meets its contract.
+use borrow.Author.Needs.{needs}
+use mathlib.Core.Path.{_∙_}
+use native.Mathlib.Omega.{arith}
+use Rattle.build.proofs.OverTree.{searchable, levels-fit, tree-built}
+use Rattle.build.proofs.tree.build_tree.Statement.{statement}
+use Rattle.build.proofs.tree.build_tree.Tie as tie
+
+count-terms-requires : tie.Need-count-terms-requires
+count-terms-requires c κs = search needs
+
+least-band-within-requires : tie.Need-least-band-within-requires
+least-band-within-requires c κs =
+    let start = c .before .before .before .before .before in
+    let args = start .args in
+    let counted = c .before .before .count-terms in
+    searchable (args .band) (args .height) (args .value) (args .setpoints .now) (args .nodes .now) (args .values .now) (args .scratch .now) (start .pre) (counted .last .1 .1 .1 .0) (counted .result) (counted .kept .1 .1 .1 .0) (counted .ensures)
+
+count-terms-requires-2 : tie.Need-count-terms-requires-2
+count-terms-requires-2 c κs = search needs
+
+trace-requires : tie.Need-trace-requires
+trace-requires c κs =
+    let start = c .before .before .before .before .before .before .before .before .before .before .before .before .before in
+    let args = start .args in
+    let counted = c .before .before .before .before .before .before .before .before .before .before .count-terms in
+    let found = c .before .before .before .before .before .before .before .least-band-within in
+    let again = c .before .before .before .before .count-terms2 in
+    levels-fit (args .band) (args .height) (args .value) (args .setpoints .now) (args .nodes .now) (args .values .now) (args .scratch .now) (start .pre) (again .last .1 .1 .1 .0) (found .result) (again .result) (again .kept .1 .1 .1 .0 ∙ found .kept .1 .1 .1 .1 .0 ∙ counted .kept .1 .1 .1 .0) (again .ensures)
+
+same-length : tie.Need-same-length
+same-length c = search needs
+
+same-length-2 : tie.Need-same-length-2
+same-length-2 c = search needs
+
+same-length-3 : tie.Need-same-length-3
+same-length-3 c = search needs
+
+returns : tie.Need-returns
+returns c =
+    let start = c .before .before .before .before .before .before .before .before .before .before .before .before .before .before .before .before .before in
+    let args = start .args in
+    let counted = c .before .before .before .before .before .before .before .before .before .before .before .before .before .before .count-terms in
+    let found = c .before .before .before .before .before .before .before .before .before .before .before .least-band-within in
+    let again = c .before .before .before .before .before .before .before .before .count-terms2 in
+    let traced = c .before .before .before .trace in
+    tree-built (args .band) (args .height) (args .value) (args .setpoints .now) (args .nodes .now) (args .values .now) (args .scratch .now) (start .pre) (counted .last .1 .1 .1 .0) (again .last .1 .1 .1 .0) (counted .result) (found .result) (again .result) (traced .result) (traced .last .1 .1 .1 .0) (traced .last .1 .1 .1 .1 .0)
+    (counted .ensures) (found .ensures) (again .ensures) (traced .ensures)
+
+pub build-tree-spec : {M : Type 1} → statement M
+build-tree-spec =
+    tie.close
+    (tie.spec
+    count-terms-requires
+    least-band-within-requires
+    count-terms-requires-2
+    trace-requires
+    same-length
+    same-length-2
+    same-length-3
+    returns)

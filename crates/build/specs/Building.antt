@@ -1,0 +1,50 @@
+-- Building: document 01, "Building, checking, least band", and demands 1 and 3. For the auditor.
+-- What a best synopsis is stands in `claims/specs/Best.antt`.
+use mathlib.Core.Path.{_≡_}
+use mathlib.Core.Bool.{Bool, _||_}
+use mathlib.Core.List.{List, []}
+use Prim.Native.Nat.{ℕ, _<_}
+use lib.Dec.{ltb}
+use lib.IntN.{ℤ, natAbs}
+use lib.ListN.{length, take, drop}
+use Rattle.limits.specs.Answers.{_when_, _then_, granted}
+use Rattle.limits.specs.Limits.{beyond, outsideBand, outsideSlots, anyBeyond}
+use Rattle.histogram.specs.declared.Term.{Term}
+use Rattle.histogram.specs.Tree.{padded}
+use Rattle.histogram.specs.Terms.{paired}
+use Rattle.histogram.specs.Errors.{greatestError}
+use Rattle.claims.specs.Best.{Best}
+
+-- what is wrong with setpoints and their rest value: 4, then "2 (rest first)"
+abbrev pub profileRefusal : List ℤ → ℤ → ℕ
+profileRefusal profile rest = 4 when outsideSlots (length profile) then 2 when beyond 20000 rest then 2 when anyBeyond profile
+
+-- row 6: "a destination of at least m terms (building only) and 12,288 scratch numbers", whatever n is
+abbrev pub destinationShort : List ℤ → ℕ → Bool
+destinationShort profile places = ltb places (padded (length profile))
+
+abbrev pub scratchShort : ℕ → Bool
+scratchShort numbers = ltb numbers 12288
+
+-- "Building: 4, 2 (rest first), 3, 6"
+abbrev pub buildRefusal : List ℤ → ℤ → ℤ → ℕ → ℕ → ℕ
+buildRefusal profile rest band places numbers =
+    profileRefusal profile rest then 3 when outsideBand band then 6 when (destinationShort profile places || scratchShort numbers)
+
+-- "the terms, their count and the greatest error": of the terms handed over, which are none on a refusal
+pub record Built (profile : List ℤ) (rest band : ℤ) (places numbers refusal count error : ℕ) (terms : List Term) : Type 0 where
+  pub refusal-is : refusal ≡ buildRefusal profile rest band places numbers
+  pub best : refusal ≡ 0 → Best profile rest (natAbs band) terms
+  pub none-refused : 0 < refusal → terms ≡ []
+  pub count-is : count ≡ length terms
+  pub error-is : error ≡ granted refusal (greatestError profile rest terms) 0
+
+-- the terms handed over: the first `count` that two destinations hold, of nodes and of values
+abbrev pub handedOver : ℕ → List ℕ → List ℤ → List Term
+handedOver count nodes values = paired (take count nodes) (take count values)
+
+-- lent memory: "places of an output past what is written hold what they held", and a refusal leaves scratch as it was
+pub record MemoryLeft (refusal count : ℕ) (nodes nodes′ : List ℕ) (values values′ scratch scratch′ : List ℤ) : Type 0 where
+  pub nodes-past : drop count nodes′ ≡ drop count nodes
+  pub values-past : drop count values′ ≡ drop count values
+  pub scratch-refused : 0 < refusal → scratch′ ≡ scratch

@@ -1,0 +1,64 @@
+-- What inner functions ask and promise. A reader of the promises need not open this file.
+use mathlib.Core.Path.{_≡_}
+use mathlib.Core.List.{List}
+use Prim.Native.Nat.{ℕ, suc, _-_, _≤_, _<_}
+use lib.IntN.{ℤ, pos}
+use lib.ListN.{length, getD, drop}
+use Rattle.histogram.specs.Tree.{padded}
+use Rattle.histogram.specs.Errors.{setpointOf, greatestError}
+use Rattle.claims.specs.Inner.{InRange}
+use Rattle.claims.specs.Best.{Best}
+use Rattle.subtree.specs.Answer.{answer, needed}
+use Rattle.subtree.specs.Stretch.{Solvable}
+use Rattle.trace.specs.Trace.{upperTerms, Traced}
+use Rattle.build.specs.Building.{handedOver}
+
+-- a setpoint for each slot of the tree, filler slots too
+pub record Filled (profile setpoints : List ℤ) : Type 0 where
+  pub each : (slot : ℕ) → slot < length setpoints → getD setpoints slot (pos 0) ≡ setpointOf profile slot
+
+-- a tree whose terms for the widest band are within a budget
+pub record Searchable (top height value budget : ℕ) (setpoints scratch : List ℤ) : Type 0 where
+  pub solvable : Solvable top height setpoints scratch
+  pub enough : needed (answer top height setpoints) value ≤ budget
+
+-- the least band up to `top` whose terms are within the budget
+pub record LeastWithin (top height value budget : ℕ) (setpoints : List ℤ) (least : ℕ) : Type 0 where
+  pub within-top : least ≤ top
+  pub enough : needed (answer least height setpoints) value ≤ budget
+  pub narrower-not : 0 < least → budget < needed (answer (least - 1) height setpoints) value
+
+-- a tree with a stretch of scratch, and room for the terms that it needs for any band
+pub record TreeFits (band height value : ℕ) (setpoints : List ℤ) (nodes : List ℕ) (values scratch : List ℤ) : Type 0 where
+  pub solvable : Solvable band height setpoints scratch
+  pub value-within : value ≤ 40000
+  pub room : (error : ℕ) → length (upperTerms error (suc height) height setpoints value) ≤ length nodes
+  pub same-room : length values ≡ length nodes
+
+-- the least band of as few terms as the band given, and the terms traced for it
+pub record TreeBuilt (band height value : ℕ) (setpoints : List ℤ) (nodes nodes′ : List ℕ) (values values′ : List ℤ) (count error : ℕ) : Type 0 where
+  pub least : LeastWithin band height value (needed (answer band height setpoints) value) setpoints error
+  pub traced : Traced (upperTerms error (suc height) height setpoints value) nodes nodes′ values values′ count
+
+-- setpoints, a rest value and scratch that are not refused
+pub record Acceptable (profile : List ℤ) (rest : ℤ) (scratch : List ℤ) : Type 0 where
+  pub some-slot : 1 ≤ length profile
+  pub few-slots : length profile ≤ 512
+  pub in-range : InRange profile rest
+  pub scratch-long : 12288 ≤ length scratch
+
+-- the same with a band and destinations that building does not refuse
+pub record Buildable (profile : List ℤ) (rest : ℤ) (band : ℕ) (nodes : List ℕ) (values scratch : List ℤ) : Type 0 where
+  pub acceptable : Acceptable profile rest scratch
+  pub band-within : band ≤ 40000
+  pub same-length : length nodes ≡ length values
+  pub destination-long : padded (length profile) ≤ length nodes
+
+-- a best synopsis is handed over
+pub record BestBuilt (profile : List ℤ) (rest : ℤ) (band refusal count error : ℕ) (nodes nodes′ : List ℕ) (values values′ : List ℤ) : Type 0 where
+  pub refusal-is : refusal ≡ 0
+  pub best : Best profile rest band (handedOver count nodes′ values′)
+  pub count-is : count ≡ length (handedOver count nodes′ values′)
+  pub error-is : error ≡ greatestError profile rest (handedOver count nodes′ values′)
+  pub nodes-past : drop count nodes′ ≡ drop count nodes
+  pub values-past : drop count values′ ≡ drop count values

@@ -1,0 +1,3 @@
+pub mod Building
+pub mod LeastBand
+pub mod Inner

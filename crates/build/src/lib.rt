@@ -1,0 +1,165 @@
+// Building the best synopsis of a profile, and the least band for a number of terms.
+// Terms are handed over in two slices of equal length, their nodes and their values.
+mod slots;
+mod tree;
+
+use histogram::terms::padded_length;
+use slots::fill;
+use slots::tree_over;
+use subtree::lift;
+use tree::build_tree;
+use tree::least_band_within;
+ghost use mathlib.Core.Path.{_≡_};
+ghost use lib.ListN.{length};
+ghost use Rattle.claims.specs.LeastBand.{LeastBand};
+ghost use Rattle.build.specs.Building.{profileRefusal, buildRefusal, Built, handedOver, MemoryLeft};
+ghost use Rattle.build.specs.LeastBand.{leastBandRefusal, LeastBandFound};
+ghost use Rattle.build.specs.Inner.{Acceptable, Buildable, BestBuilt};
+
+// Building's answer: how many terms were handed over, and their greatest error.
+pub struct BuildAnswer {
+    pub refusal: u8,
+    pub count: usize,
+    pub error: u16,
+}
+
+// Builds the synopsis with the fewest terms that keeps the band and, among those, the least greatest error.
+pub fn build_synopsis(
+    setpoints: &[i16],
+    rest: i32,
+    band: i32,
+    nodes: &mut [u16],
+    values: &mut [i16],
+    scratch: &mut [i16],
+) -> BuildAnswer
+    requires { ⌜ length (now nodes) ≡ length (now values) ⌝ }
+    ensures { λ r. ⌜ Built (now (setpoints .entry)) rest band (length (now (nodes .entry))) (length (now (scratch .entry))) (r .refusal) (r .count) (r .error) (handedOver (r .count) (now (nodes .exit)) (now (values .exit)))
+        × MemoryLeft (r .refusal) (r .count) (now (nodes .entry)) (now (nodes .exit)) (now (values .entry)) (now (values .exit)) (now (scratch .entry)) (now (scratch .exit)) ⌝ }
+{
+    let refusal = refuse_build(setpoints, rest, band, nodes.len(), scratch.len());
+    if 0 < refusal {
+        return BuildAnswer {
+            refusal: refusal,
+            count: 0,
+            error: 0,
+        };
+    }
+    build_best(setpoints, rest, band as usize, nodes, values, scratch)
+}
+
+// The number that refuses building; 0 for none.
+fn refuse_build(setpoints: &[i16], rest: i32, band: i32, places: usize, numbers: usize) -> u8
+    ensures { λ r. ⌜ r ≡ buildRefusal (now (setpoints .entry)) rest band places numbers ⌝ }
+{
+    let refusal = refuse_profile(setpoints, rest);
+    if 0 < refusal {
+        return refusal;
+    }
+    if limits::is_outside_band(band) {
+        return 3;
+    }
+    if places < padded_length(setpoints.len()) {
+        return 6;
+    }
+    if numbers < 12288 {
+        return 6;
+    }
+    0
+}
+
+// The number that refuses setpoints and their rest value; 0 for none.
+fn refuse_profile(setpoints: &[i16], rest: i32) -> u8
+    ensures { λ r. ⌜ r ≡ profileRefusal (now (setpoints .entry)) rest ⌝ }
+{
+    if limits::is_outside_slots(setpoints.len()) {
+        return 4;
+    }
+    if limits::is_beyond(limits::VALUE_LIMIT, rest) {
+        return 2;
+    }
+    if limits::is_any_beyond(setpoints) {
+        return 2;
+    }
+    0
+}
+
+// Builds where nothing is refused.
+fn build_best(
+    setpoints: &[i16],
+    rest: i32,
+    band: usize,
+    nodes: &mut [u16],
+    values: &mut [i16],
+    scratch: &mut [i16],
+) -> BuildAnswer
+    requires { ⌜ Buildable (now setpoints) rest band (now nodes) (now values) (now scratch) ⌝ }
+    ensures { λ r. ⌜ BestBuilt (now (setpoints .entry)) rest band (r .refusal) (r .count) (r .error) (now (nodes .entry)) (now (nodes .exit)) (now (values .entry)) (now (values .exit)) ⌝ }
+{
+    let mut room = [0i16; 512];
+    fill(setpoints, &mut room);
+    let size = tree_over(setpoints.len());
+    let padded = size.padded;
+    let height = size.height;
+    let value = lift(rest);
+    let built = build_tree(&room[..padded], value, band, nodes, values, scratch, height);
+    BuildAnswer {
+        refusal: 0,
+        count: built.count,
+        error: built.error as u16,
+    }
+}
+
+// The least band's answer.
+pub struct LeastBandAnswer {
+    pub refusal: u8,
+    pub band: u16,
+}
+
+// Finds the least band that some synopsis of at most `budget` terms keeps.
+pub fn least_band(setpoints: &[i16], rest: i32, budget: u32, scratch: &mut [i16]) -> LeastBandAnswer
+    ensures { λ r. ⌜ LeastBandFound (now (setpoints .entry)) rest budget (r .refusal) (r .band) (now (scratch .entry)) (now (scratch .exit)) ⌝ }
+{
+    let refusal = refuse_least_band(setpoints, rest, budget, scratch.len());
+    if 0 < refusal {
+        return LeastBandAnswer {
+            refusal: refusal,
+            band: 0,
+        };
+    }
+    LeastBandAnswer {
+        refusal: 0,
+        band: least_band_of(setpoints, rest, budget as usize, scratch),
+    }
+}
+
+// The number that refuses the search for a least band; 0 for none.
+fn refuse_least_band(setpoints: &[i16], rest: i32, budget: u32, numbers: usize) -> u8
+    ensures { λ r. ⌜ r ≡ leastBandRefusal (now (setpoints .entry)) rest budget numbers ⌝ }
+{
+    let refusal = refuse_profile(setpoints, rest);
+    if 0 < refusal {
+        return refusal;
+    }
+    if 1023 < budget {
+        return 5;
+    }
+    if numbers < 12288 {
+        return 6;
+    }
+    0
+}
+
+// Finds it where nothing is refused. Every profile keeps the band 400,00 with no term.
+fn least_band_of(setpoints: &[i16], rest: i32, budget: usize, scratch: &mut [i16]) -> u16
+    requires { ⌜ Acceptable (now setpoints) rest (now scratch) ⌝ }
+    ensures { λ r. ⌜ LeastBand (now (setpoints .entry)) rest budget r ⌝ }
+{
+    let mut room = [0i16; 512];
+    fill(setpoints, &mut room);
+    let size = tree_over(setpoints.len());
+    let padded = size.padded;
+    let height = size.height;
+    let value = lift(rest);
+    let band = least_band_within(&room[..padded], value, budget, 40000, scratch, height);
+    band as u16
+}

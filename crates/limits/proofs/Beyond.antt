@@ -1,0 +1,23 @@
+-- Setpoints of which none lies beyond ±20,000.
+use mathlib.Core.Path.{_≡_, refl}
+use mathlib.Core.Bool.{Bool, true, false, not, _||_}
+use mathlib.Core.List.{List, [], _∷_}
+use Prim.Native.Nat.{ℕ, zero, suc, _≤_}
+use native.Mathlib.Omega.{arith}
+use lib.Dec.{T}
+use lib.IntN.{ℤ, pos, natAbs}
+use lib.ListN.{getD}
+use borrow.Author.Tests.{ltb-false}
+use Rattle.limits.specs.Limits.{beyond, anyBeyond}
+
+-- every setpoint lies within ±20,000 where none lies beyond
+pub within-all : (profile : List ℤ) → T (not (anyBeyond profile)) → (k : ℕ) → natAbs (getD profile k (pos 0)) ≤ 20000
+unfolding anyBeyond
+within-all [] none k = omega arith
+within-all (setpoint ∷ profile) none k = by-test (beyond 20000 setpoint) refl none k (within-all profile)
+  where
+    by-test : (far : Bool) → beyond 20000 setpoint ≡ far → T (not (far || anyBeyond profile)) → (k : ℕ)
+        → (T (not (anyBeyond profile)) → (j : ℕ) → natAbs (getD profile j (pos 0)) ≤ 20000) → natAbs (getD (setpoint ∷ profile) k (pos 0)) ≤ 20000
+    by-test true is-far impossible k others = absurd impossible
+    by-test false is-near rest zero others = ltb-false 20000 (natAbs setpoint) is-near
+    by-test false is-near rest (suc j) others = others rest j

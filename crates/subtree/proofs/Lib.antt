@@ -1,0 +1,9 @@
+pub mod Places
+pub mod Lent
+pub mod Combining
+pub mod Leaves
+pub mod Lifting
+pub mod Answers
+pub mod Rows
+pub mod Solving
+pub mod Counting

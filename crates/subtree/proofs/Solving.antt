@@ -1,0 +1,192 @@
+-- A solved stretch: it may be read otherwise, as a part of scratch, and it is made of the children's stretches and the node's answer.
+use mathlib.Core.Path.{_≡_, refl, sym, ap, ap₂, subst, _∙_}
+use mathlib.Core.List.{List, [], _∷_}
+use Prim.Native.Nat.{ℕ, zero, suc, _+_, _*_, _-_, _^_, _≤_, _<_}
+use native.Mathlib.Omega.{arith}
+use lib.IntN.{ℤ, pos}
+use lib.ListN.{length, getD, take, drop}
+use lib.Pow.{pow-mono}
+use lib.Seq.{length-take-le}
+use borrow.Rule.Slice.PartMut.{putMid, mid-len, same-len-mid}
+use Rattle.limits.proofs.Parts.{to-end}
+use Rattle.windows.specs.Windows.{Window}
+use Rattle.windows.specs.Scratch.{at, windowsAt}
+use Rattle.windows.proofs.Reading.{windows-same, windows-shifted, windows-length}
+use Rattle.subtree.specs.Answer.{Answer, combined, answer}
+use Rattle.subtree.specs.Stretch.{ownPlaces, places, answerAt, Solved, Within, Solvable, Planned, LeafSolved, Combinable, CombinedAt}
+use Rattle.subtree.proofs.Places.{places-above, own-first}
+use Rattle.subtree.proofs.Lent.{in-part, before-part}
+use Rattle.subtree.proofs.Answers.{Bounded, answer-bounded, within-take, within-drop}
+
+-- the answer of the node at the top
+pub solved-top : (band height : ℕ) (setpoints : List ℤ) (read : ℕ → ℕ) → Solved band height setpoints read → answerAt read 0 ≡ answer band height setpoints
+unfolding Solved
+solved-top band zero setpoints read solved = solved
+solved-top band (suc height) setpoints read solved = solved .0
+
+-- how many windows stand at a place, by the answer there
+pub count-of : (read : ℕ → ℕ) (place : ℕ) (one : Answer) → answerAt read place ≡ one → read (place + 1) ≡ length (one .windows)
+count-of read place one is = sym (windows-length read (place + 2) (read (place + 1))) ∙ ap (λ (of : Answer). length (of .windows)) is
+
+-- an answer is the same where the numbers of its places are
+pub answer-same : (read other : ℕ → ℕ) (place slots : ℕ) → read (place + 1) ≤ slots
+    → ((k : ℕ) → place ≤ k → k < place + 2 + 2 * slots → read k ≡ other k) → answerAt read place ≡ answerAt other place
+answer-same read other place slots few same =
+    ap₂ (λ (number : ℕ) (windows : List Window). record { number = number; windows = windows }) (same place (omega arith) (omega arith))
+    (windows-same read other (place + 2) (read (place + 1)) (λ k above below. same k (omega arith) (omega arith))
+    ∙ ap (windowsAt other (place + 2)) (same (place + 1) (omega arith) (omega arith)))
+
+pub answer-shifted : (read : ℕ → ℕ) (start : ℕ) → answerAt (λ k. read (start + k)) 0 ≡ answerAt read start
+answer-shifted read start =
+    let here : start + 0 ≡ start = omega arith in
+    let first : start + (0 + 2) ≡ start + 2 = omega arith in
+    rw (windows-shifted read start (0 + 2) (read (start + (0 + 1))), here, first)
+
+-- a stretch is solved by the numbers of its places alone
+top-same : (band height : ℕ) (setpoints : List ℤ) (read other : ℕ → ℕ) → ((place : ℕ) → place < places height → read place ≡ other place)
+    → answerAt read 0 ≡ answer band height setpoints → answerAt other 0 ≡ answer band height setpoints
+top-same band height setpoints read other same is =
+    let few : read 1 ≤ 2 ^ height = omega (arith, count-of read 0 (answer band height setpoints) is, answer-bounded band height setpoints .few) in
+    sym (answer-same read other 0 (2 ^ height) few (λ k above below. same k (omega (arith, own-first height)))) ∙ is
+
+pub solved-same : (band height : ℕ) (setpoints : List ℤ) (read other : ℕ → ℕ) → ((place : ℕ) → place < places height → read place ≡ other place)
+    → Solved band height setpoints read → Solved band height setpoints other
+unfolding Solved
+solved-same band zero setpoints read other same solved = top-same band zero setpoints read other same solved
+solved-same band (suc height) setpoints read other same solved =
+    let own : ℕ = ownPlaces (suc height) in (
+      top-same band (suc height) setpoints read other same (solved .0),
+      solved-same band height (take (2 ^ height) setpoints) (λ place. read (own + place)) (λ place. other (own + place))
+          (λ place inside. same (own + place) (omega (arith, places-above height))) (solved .1),
+      solved-same band height (drop (2 ^ height) setpoints) (λ place. read (own + places height + place)) (λ place. other (own + places height + place))
+          (λ place inside. same (own + places height + place) (omega (arith, places-above height))) (solved .2),
+    )
+
+-- the answers of the two children in the stretch of the node above them
+pub child-answer : (band height start : ℕ) (setpoints : List ℤ) (read : ℕ → ℕ) → Solved band height setpoints (λ place. read (start + place))
+    → answerAt read start ≡ answer band height setpoints
+child-answer band height start setpoints read solved = sym (answer-shifted read start) ∙ solved-top band height setpoints (λ place. read (start + place)) solved
+
+-- the answers of both children stand in one stretch, each a part of it
+pub record Halves (band height own middle : ℕ) (setpoints both : List ℤ) : Type 0 where
+  pub left-solved : Solved band height (take (2 ^ height) setpoints) (λ place. at both (own + place))
+  pub right-solved : Solved band height (drop (2 ^ height) setpoints) (λ place. at both (middle + place))
+
+module _ (band height own middle : ℕ) (setpoints both : List ℤ) (halves : Halves band height own middle setpoints both) where
+  left-bounded : Bounded (2 ^ height) (answerAt (at both) own)
+  left-bounded =
+      subst (Bounded (2 ^ height)) (sym (child-answer band height own (take (2 ^ height) setpoints) (at both) (halves .left-solved)))
+      (answer-bounded band height (take (2 ^ height) setpoints))
+
+  right-bounded : Bounded (2 ^ height) (answerAt (at both) middle)
+  right-bounded =
+      subst (Bounded (2 ^ height)) (sym (child-answer band height middle (drop (2 ^ height) setpoints) (at both) (halves .right-solved)))
+      (answer-bounded band height (drop (2 ^ height) setpoints))
+
+  -- they can be combined
+  pub combinable : own ≡ ownPlaces (suc height) → middle ≡ own + places height → middle + places height ≤ length both → height ≤ 8 → Combinable both own middle
+  combinable own-is middle-is fits in-tree =
+      let power : 2 ^ height ≤ 2 ^ 8 = pow-mono in-tree in
+      let lefts = windows-length (at both) (own + 2) (at both (own + 1)) in
+      let rights = windows-length (at both) (middle + 2) (at both (middle + 1)) in
+      record {
+        room = omega (arith, left-bounded .few, right-bounded .few);
+        apart = omega (arith, left-bounded .few, own-first height);
+        within = omega (arith, right-bounded .few, own-first height);
+        small = omega (arith, left-bounded .below, right-bounded .below);
+        few = omega (arith, left-bounded .few, right-bounded .few);
+      }
+
+  -- and once they are, the stretch is solved
+  pub node-solved : (after : List ℤ) → own ≡ ownPlaces (suc height) → middle ≡ own + places height → CombinedAt both after own middle
+      → Solved band (suc height) setpoints (at after)
+  unfolding Solved answer
+  node-solved after own-is middle-is combined-at =
+      let left-is = child-answer band height own (take (2 ^ height) setpoints) (at both) (halves .left-solved) in
+      let right-is = child-answer band height middle (drop (2 ^ height) setpoints) (at both) (halves .right-solved) in (
+        combined-at .answer-is ∙ ap₂ combined left-is right-is,
+        solved-same band height (take (2 ^ height) setpoints) (λ place. at both (own + place)) (λ place. at after (ownPlaces (suc height) + place))
+            (λ place inside. sym (combined-at .others-same (own + place) (omega arith)) ∙ ap (λ (start : ℕ). at after (start + place)) own-is) (halves .left-solved),
+        solved-same band height (drop (2 ^ height) setpoints) (λ place. at both (middle + place)) (λ place. at after (ownPlaces (suc height) + places height + place))
+            (λ place inside. sym (combined-at .others-same (middle + place) (omega arith)) ∙ ap (λ (start : ℕ). at after (start + place)) (middle-is ∙ ap (λ (start : ℕ). start + places height) own-is))
+            (halves .right-solved),
+      )
+
+-- the two halves of a stretch after each was lent, solved, and came back
+module _ (band height half own middle end : ℕ) (setpoints scratch left right : List ℤ) (planned : Planned height half own middle end) (fits : end ≤ length scratch)
+    (left-kept : length left ≡ length (take (middle - own) (drop own scratch)))
+    (right-kept : length right ≡ length (take (end - middle) (drop middle (putMid own (middle - own) scratch left)))) where
+  abbrev first-back : List ℤ
+  first-back = putMid own (middle - own) scratch left
+
+  abbrev both-back : List ℤ
+  both-back = putMid middle (end - middle) first-back right
+
+  first-length : length first-back ≡ length scratch
+  first-length = same-len-mid own (middle - own) scratch left left-kept
+
+  pub both-length : length both-back ≡ length scratch
+  both-length = same-len-mid middle (end - middle) first-back right right-kept ∙ first-length
+
+  left-long : length left ≡ middle - own
+  left-long = left-kept ∙ mid-len own middle scratch (omega (arith, planned .end-is))
+
+  right-long : length right ≡ end - middle
+  right-long = right-kept ∙ mid-len middle end first-back (omega (arith, first-length))
+
+  pub halves : Solved band (height - 1) (take half setpoints) (at left) → Solved band (height - 1) (take (length setpoints - half) (drop half setpoints)) (at right)
+      → Halves band (height - 1) own middle setpoints both-back
+  halves left-solved right-solved =
+      let left-places : middle ≡ own + places (height - 1) = planned .middle-is in
+      let right-places : end ≡ middle + places (height - 1) = planned .end-is in
+      record {
+        left-solved =
+            solved-same band (height - 1) (take (2 ^ (height - 1)) setpoints) (at left) (λ place. at both-back (own + place))
+            (λ place inside.
+            sym (before-part middle end first-back right (omega arith) (omega (arith, first-length)) right-long (own + place) (omega arith)
+            ∙ in-part own middle scratch left (omega arith) (omega arith) left-long place (omega arith)))
+            (subst (λ (count : ℕ). Solved band (height - 1) (take count setpoints) (at left)) (planned .half-is) left-solved);
+        right-solved =
+            solved-same band (height - 1) (drop (2 ^ (height - 1)) setpoints) (at right) (λ place. at both-back (middle + place))
+            (λ place inside. sym (in-part middle end first-back right (omega arith) (omega (arith, first-length)) right-long place (omega arith)))
+            (subst (λ (count : ℕ). Solved band (height - 1) (drop count setpoints) (at right)) (planned .half-is)
+            (subst (λ (list : List ℤ). Solved band (height - 1) list (at right)) (to-end half setpoints) right-solved));
+      }
+
+  -- once their answers are combined, the whole stretch is solved
+  pub whole-solved : Halves band (height - 1) own middle setpoints both-back → (after : List ℤ) → CombinedAt both-back after own middle → Solved band height setpoints (at after)
+  whole-solved of-halves after combined-at =
+      subst (λ (levels : ℕ). Solved band levels setpoints (at after)) (sym (planned .below))
+      (node-solved band (height - 1) own middle setpoints both-back of-halves after (planned .own-is ∙ ap ownPlaces (planned .below)) (planned .middle-is) combined-at)
+
+  pub halves-combinable : height ≤ 9 → Halves band (height - 1) own middle setpoints both-back → Combinable both-back own middle
+  halves-combinable in-tree of-halves =
+      combinable band (height - 1) own middle setpoints both-back of-halves (planned .own-is ∙ ap ownPlaces (planned .below)) (planned .middle-is)
+      (omega (arith, both-length, planned .end-is)) (omega arith)
+
+-- what solving asks of each half
+module _ (band height half own middle end : ℕ) (setpoints scratch : List ℤ) (planned : Planned height half own middle end) (solvable : Solvable band height setpoints scratch) where
+  pub left-solvable : Solvable band (height - 1) (take half setpoints) (take (middle - own) (drop own scratch))
+  left-solvable = record {
+    slots = length-take-le half setpoints (omega (arith, solvable .slots, planned .both-halves)) ∙ planned .half-is;
+    setpoints-within = within-take (solvable .setpoints-within) half;
+    band-within = solvable .band-within;
+    in-tree = omega (arith, solvable .in-tree);
+    room = omega (arith, mid-len own middle scratch (omega (arith, solvable .room, planned .all-places, planned .end-is)), planned .middle-is);
+  }
+
+  pub right-solvable : (later : List ℤ) → length later ≡ length scratch
+      → Solvable band (height - 1) (take (length setpoints - half) (drop half setpoints)) (take (end - middle) (drop middle later))
+  right-solvable later same-length = record {
+    slots = mid-len half (length setpoints) setpoints (omega arith) ∙ omega (arith, solvable .slots, planned .both-halves, planned .half-is);
+    setpoints-within = subst Within (sym (to-end half setpoints)) (within-drop (solvable .setpoints-within) half);
+    band-within = solvable .band-within;
+    in-tree = omega (arith, solvable .in-tree);
+    room = omega (arith, mid-len middle end later (omega (arith, solvable .room, planned .all-places)), planned .end-is);
+  }
+
+-- a leaf's stretch is solved by its answer
+pub leaf-whole : (band height : ℕ) (setpoints after : List ℤ) → height ≤ 0 → LeafSolved band (getD setpoints 0 (pos 0)) after → Solved band height setpoints (at after)
+unfolding Solved answer
+leaf-whole band zero setpoints after none leaf = leaf .answer-is
+leaf-whole band (suc height) setpoints after none leaf = absurd (omega arith)

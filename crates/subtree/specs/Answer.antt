@@ -1,0 +1,35 @@
+-- The bottom-up pass of document 000, section 6.1: a node's answer from the answers of its two children. A reader of the promises need not open this file.
+-- `proofs/Rows.antt` shows that an answer is what the theory of fewest terms says of its node: `answer-row`.
+use mathlib.Core.List.{List, [], _∷_}
+use Prim.Native.Nat.{ℕ, zero, suc, _+_, _-_, _^_, min}
+use lib.IntN.{ℤ, pos}
+use lib.ListN.{getD, take, drop}
+use Rattle.fewest.specs.Node.{missed}
+use Rattle.claims.specs.Inner.{lifted}
+use Rattle.windows.specs.Windows.{Window, covers, meet, join}
+
+-- how many terms a subtree needs strictly below its top for the best values coming in, and those values
+pub record Answer : Type 0 where
+  pub number : ℕ
+  pub windows : List Window
+
+-- the values within a band of a slot's setpoint
+abbrev pub slotWindow : ℕ → ℕ → Window
+slotWindow band setpoint = record { low = setpoint - band; high = min (setpoint + band) 40000 }
+
+-- what is in both sets where they meet; else what is in either, at the price of one term more
+abbrev pub combinedBy : List Window → Answer → Answer → Answer
+combinedBy [] left right = record { number = left .number + right .number + 1; windows = join (left .windows) (right .windows) }
+combinedBy (window ∷ windows) left right = record { number = left .number + right .number; windows = window ∷ windows }
+
+abbrev pub combined : Answer → Answer → Answer
+combined left right = combinedBy (meet (left .windows) (right .windows)) left right
+
+-- the answer for a subtree of a height over its setpoints
+unfoldable pub answer : ℕ → ℕ → List ℤ → Answer
+answer band zero setpoints = record { number = 0; windows = slotWindow band (lifted (getD setpoints 0 (pos 0))) ∷ [] }
+answer band (suc height) setpoints = combined (answer band height (take (2 ^ height) setpoints)) (answer band height (drop (2 ^ height) setpoints))
+
+-- the terms that a subtree needs with a value coming in: its number, and one more where the value is not among its best ones
+abbrev pub needed : Answer → ℕ → ℕ
+needed answer value = answer .number + missed (covers (answer .windows) value)

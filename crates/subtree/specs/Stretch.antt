@@ -1,0 +1,81 @@
+-- The stretch of scratch that a subtree owns, and what inner functions ask and promise of it. A reader of the promises need not open this file.
+-- A stretch holds the top's answer (its number, how many windows, room for one window a slot), then the left child's stretch, then the right child's.
+use mathlib.Core.Path.{_≡_}
+use mathlib.Core.List.{List, [], _∷_}
+use Prim.Native.Nat.{ℕ, zero, suc, _+_, _*_, _-_, _^_, _≤_, _<_}
+use lib.IntN.{ℤ, pos, natAbs}
+use lib.ListN.{length, getD, take, drop}
+use Rattle.windows.specs.Scratch.{at, windowsAt}
+use Rattle.subtree.specs.Answer.{Answer, combined, answer, needed}
+
+-- the places of the top's own answer
+abbrev pub ownPlaces : ℕ → ℕ
+ownPlaces height = 2 + 2 * 2 ^ height
+
+-- the places of the whole stretch
+unfoldable pub places : ℕ → ℕ
+places zero = ownPlaces zero
+places (suc height) = ownPlaces (suc height) + places height + places height
+
+-- the answer that stands at a place of scratch
+abbrev pub answerAt : (ℕ → ℕ) → ℕ → Answer
+answerAt read place = record { number = read place; windows = windowsAt read (place + 2) (read (place + 1)) }
+
+-- the stretch holds the answer of every node of the subtree
+unfoldable pub Solved : ℕ → ℕ → List ℤ → (ℕ → ℕ) → Type 0
+Solved band zero setpoints read = answerAt read 0 ≡ answer band zero setpoints
+Solved band (suc height) setpoints read =
+    (answerAt read 0 ≡ answer band (suc height) setpoints)
+    × Solved band height (take (2 ^ height) setpoints) (λ place. read (ownPlaces (suc height) + place))
+    × Solved band height (drop (2 ^ height) setpoints) (λ place. read (ownPlaces (suc height) + places height + place))
+
+-- every setpoint within ±20,000
+pub record Within (setpoints : List ℤ) : Type 0 where
+  pub each : (slot : ℕ) → natAbs (getD setpoints slot (pos 0)) ≤ 20000
+
+-- one setpoint a slot, a band, and a stretch for the subtree
+pub record Solvable (band height : ℕ) (setpoints scratch : List ℤ) : Type 0 where
+  pub slots : length setpoints ≡ 2 ^ height
+  pub setpoints-within : Within setpoints
+  pub band-within : band ≤ 40000
+  pub in-tree : height ≤ 9
+  pub room : places height ≤ length scratch
+
+-- where the two children of a node of a height begin and end: the left child's setpoints, and both children's stretches
+pub record Planned (height half own middle end : ℕ) : Type 0 where
+  pub below : height ≡ suc (height - 1)
+  pub half-is : half ≡ 2 ^ (height - 1)
+  pub both-halves : 2 ^ height ≡ half + half
+  pub own-is : own ≡ ownPlaces height
+  pub middle-is : middle ≡ own + places (height - 1)
+  pub end-is : end ≡ middle + places (height - 1)
+  pub all-places : places height ≡ end
+  pub few-places : end ≤ 12286
+
+-- an answer's number and how many windows it has, written before its windows
+pub record Headed (number count : ℕ) (before after : List ℤ) : Type 0 where
+  pub number-is : at after 0 ≡ number
+  pub count-is : at after 1 ≡ count
+  pub others-same : (place : ℕ) → 2 ≤ place → at after place ≡ at before place
+
+-- the answer of a leaf
+pub record LeafSolved (band : ℕ) (setpoint : ℤ) (scratch : List ℤ) : Type 0 where
+  pub answer-is : answerAt (at scratch) 0 ≡ answer band 0 (setpoint ∷ [])
+
+-- the answers of two children in one stretch, and room for the answer of the node above them
+pub record Combinable (scratch : List ℤ) (left right : ℕ) : Type 0 where
+  pub room : 2 + 2 * (at scratch (left + 1) + at scratch (right + 1)) ≤ left
+  pub apart : left + 2 + 2 * at scratch (left + 1) ≤ right
+  pub within : right + 2 + 2 * at scratch (right + 1) ≤ length scratch
+  pub small : at scratch left + at scratch right < 1024
+  pub few : at scratch (left + 1) + at scratch (right + 1) ≤ 1024
+
+-- the node's answer at the front, and the children as before
+pub record CombinedAt (before after : List ℤ) (left right : ℕ) : Type 0 where
+  pub answer-is : answerAt (at after) 0 ≡ combined (answerAt (at before) left) (answerAt (at before) right)
+  pub others-same : (place : ℕ) → left ≤ place → at after place ≡ at before place
+
+-- the terms that the tree needs for a band, with every answer in scratch
+pub record Counted (band height value : ℕ) (setpoints scratch : List ℤ) (count : ℕ) : Type 0 where
+  pub count-is : count ≡ needed (answer band height setpoints) value
+  pub solved : Solved band height setpoints (at scratch)

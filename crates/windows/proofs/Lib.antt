@@ -1,0 +1,6 @@
+pub mod Joining
+pub mod Meeting
+pub mod Reading
+pub mod Sets
+pub mod Words
+pub mod Writing
