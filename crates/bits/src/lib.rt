@@ -101,7 +101,7 @@ fn signed_of(width: usize, number: u16) -> i16
 }
 
 // The number of `width` bits that stands for a signed one: itself, or 2^width more where it is below zero. Raised by 2^width it is unsigned either way.
-fn complement_of(width: usize, number: i16) -> u16
+pub fn complement_of(width: usize, number: i16) -> u16
     requires { ⌜ (width ≤ 16) × SignedBits width number ⌝ }
     ensures { λ r. ⌜ r ≡ complement width number ⌝ }
 {

@@ -12,7 +12,7 @@ use tree::least_band_within;
 ghost use mathlib.Core.Path.{_≡_};
 ghost use lib.ListN.{length};
 ghost use Rattle.claims.specs.LeastBand.{LeastBand};
-ghost use Rattle.build.specs.Building.{profileRefusal, buildRefusal, Built, handedOver, MemoryLeft};
+ghost use Rattle.build.specs.Building.{profileRefusal, scratchShort, buildRefusal, Built, handedOver, MemoryLeft};
 ghost use Rattle.build.specs.LeastBand.{leastBandRefusal, LeastBandFound};
 ghost use Rattle.build.specs.Inner.{Acceptable, Buildable, BestBuilt};
 
@@ -51,9 +51,9 @@ pub fn build_synopsis(
 fn refuse_build(setpoints: &[i16], rest: i32, band: i32, places: usize, numbers: usize) -> u8
     ensures { λ r. ⌜ r ≡ buildRefusal (now (setpoints .entry)) rest band places numbers ⌝ }
 {
-    let refusal = refuse_profile(setpoints, rest);
-    if 0 < refusal {
-        return refusal;
+    let wrong = refuse_profile(setpoints, rest);
+    if 0 < wrong {
+        return wrong;
     }
     if limits::is_outside_band(band) {
         return 3;
@@ -61,7 +61,7 @@ fn refuse_build(setpoints: &[i16], rest: i32, band: i32, places: usize, numbers:
     if places < padded_length(setpoints.len()) {
         return 6;
     }
-    if numbers < 12288 {
+    if is_scratch_short(numbers) {
         return 6;
     }
     0
@@ -81,6 +81,13 @@ fn refuse_profile(setpoints: &[i16], rest: i32) -> u8
         return 2;
     }
     0
+}
+
+// Whether scratch has fewer numbers than every tree is given.
+fn is_scratch_short(numbers: usize) -> bool
+    ensures { λ r. ⌜ r ≡ scratchShort numbers ⌝ }
+{
+    numbers < 12288
 }
 
 // Builds where nothing is refused.
@@ -119,10 +126,10 @@ pub struct LeastBandAnswer {
 pub fn least_band(setpoints: &[i16], rest: i32, budget: u32, scratch: &mut [i16]) -> LeastBandAnswer
     ensures { λ r. ⌜ LeastBandFound (now (setpoints .entry)) rest budget (r .refusal) (r .band) (now (scratch .entry)) (now (scratch .exit)) ⌝ }
 {
-    let refusal = refuse_least_band(setpoints, rest, budget, scratch.len());
-    if 0 < refusal {
+    let refused = refuse_least_band(setpoints, rest, budget, scratch.len());
+    if 0 < refused {
         return LeastBandAnswer {
-            refusal: refusal,
+            refusal: refused,
             band: 0,
         };
     }
@@ -136,14 +143,14 @@ pub fn least_band(setpoints: &[i16], rest: i32, budget: u32, scratch: &mut [i16]
 fn refuse_least_band(setpoints: &[i16], rest: i32, budget: u32, numbers: usize) -> u8
     ensures { λ r. ⌜ r ≡ leastBandRefusal (now (setpoints .entry)) rest budget numbers ⌝ }
 {
-    let refusal = refuse_profile(setpoints, rest);
-    if 0 < refusal {
-        return refusal;
+    let wrong = refuse_profile(setpoints, rest);
+    if 0 < wrong {
+        return wrong;
     }
     if 1023 < budget {
         return 5;
     }
-    if numbers < 12288 {
+    if is_scratch_short(numbers) {
         return 6;
     }
     0

@@ -1,5 +1,6 @@
-// Runs one call as often as the input says, so that bench/steps can count its instructions.
+// Runs one call as often as the input says, so that bench/steps and bench/building can count its instructions.
 // The input's first byte says which call, its second how often, a digit; a text or a record follows.
+// For building the text gives setpoints, rest value and band; for the least band its second line holds the budget, in hundredths.
 use libc::STDIN_FILENO;
 use libc::STDOUT_FILENO;
 ghost use mathlib.Core.Path.{_≡_};
@@ -31,6 +32,12 @@ fn run(input: &[u8]) {
     }
     if call == b'c' {
         check(&input[2..], times);
+    }
+    if call == b'b' {
+        build(&input[2..], times);
+    }
+    if call == b'l' {
+        find_band(&input[2..], times);
     }
 }
 
@@ -119,6 +126,70 @@ fn check(bytes: &[u8], times: u8) {
         done += 1;
     }
     print(refusals);
+}
+
+// Builds from the text's profile that often.
+fn build(text: &[u8], times: u8) {
+    let mut setpoints = [0i16; 512];
+    let read = profile::read_profile(text, &mut setpoints);
+    if read.slots == 512 {
+        repeat_build(&setpoints, read.rest, read.band, times);
+    }
+}
+
+// Builds that often; the sum of the refusals, the count and the greatest error are printed.
+fn repeat_build(setpoints: &[i16], rest: i32, band: i32, times: u8) {
+    let mut nodes = [0u16; 512];
+    let mut values = [0i16; 512];
+    let mut scratch = [0i16; 12288];
+    let mut refusals: u64 = 0;
+    let mut count = 0;
+    let mut error: u64 = 0;
+    let mut done = 0;
+    while done < times {
+        let answer = build::build_synopsis(
+            setpoints,
+            rest,
+            band,
+            &mut nodes,
+            &mut values,
+            &mut scratch,
+        );
+        refusals += answer.refusal as u64;
+        count = answer.count;
+        error = answer.error as u64;
+        done += 1;
+    }
+    print(refusals);
+    print(count as u64);
+    print(error);
+    print_above_zero(&values);
+    print_sum(&nodes);
+}
+
+// Finds the least band of the text's profile that often.
+fn find_band(text: &[u8], times: u8) {
+    let mut setpoints = [0i16; 512];
+    let read = profile::read_profile(text, &mut setpoints);
+    if read.slots == 512 {
+        repeat_find(&setpoints, read.rest, limits::magnitude(read.band), times);
+    }
+}
+
+// Finds the least band that often; the sum of the refusals and the band are printed.
+fn repeat_find(setpoints: &[i16], rest: i32, budget: u32, times: u8) {
+    let mut scratch = [0i16; 12288];
+    let mut refusals: u64 = 0;
+    let mut band: u64 = 0;
+    let mut done = 0;
+    while done < times {
+        let answer = build::least_band(setpoints, rest, budget, &mut scratch);
+        refusals += answer.refusal as u64;
+        band = answer.band as u64;
+        done += 1;
+    }
+    print(refusals);
+    print(band);
 }
 
 // Prints how many numbers lie above 0, so that no store to them can be left out.

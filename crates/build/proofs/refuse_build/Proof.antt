@@ -50,17 +50,20 @@ returns-3 c =
     let args = inside .before .before .before .before .args in
     rw (profile-right (inside .before .before), band-answer (inside .before) ∙ inside .if2 .left, lt-ltb (args .places) (padded (length (args .setpoints .now))) (omega arith))
 
+is-scratch-short-requires : tie.Need-is-scratch-short-requires
+is-scratch-short-requires c κs = search needs
+
 returns-4 : tie.Need-returns-4
 returns-4 c =
-    let inside = c .before .before .before in
+    let inside = c .before .before .before .before in
     let args = inside .before .before .before .before .args in
-    rw (profile-right (inside .before .before), band-answer (inside .before) ∙ inside .if2 .left, le-ltb (args .places) (padded (length (args .setpoints .now))) (omega arith), lt-ltb (args .numbers) 12288 (omega arith))
+    rw (profile-right (inside .before .before), band-answer (inside .before) ∙ inside .if2 .left, le-ltb (args .places) (padded (length (args .setpoints .now))) (omega arith), sym (c .before .is-scratch-short .ensures) ∙ c .if4 .taken)
 
 returns-5 : tie.Need-returns-5
 returns-5 c =
-    let inside = c .before .before .before in
+    let inside = c .before .before .before .before in
     let args = inside .before .before .before .before .args in
-    rw (profile-right (inside .before .before), band-answer (inside .before) ∙ inside .if2 .left, le-ltb (args .places) (padded (length (args .setpoints .now))) (omega arith), le-ltb (args .numbers) 12288 (omega arith))
+    rw (profile-right (inside .before .before), band-answer (inside .before) ∙ inside .if2 .left, le-ltb (args .places) (padded (length (args .setpoints .now))) (omega arith), sym (c .before .is-scratch-short .ensures) ∙ c .if4 .left)
 
 pub refuse-build-spec : {M : Type 1} → statement M
 refuse-build-spec =
@@ -72,5 +75,6 @@ refuse-build-spec =
     returns-2
     padded-length-requires
     returns-3
+    is-scratch-short-requires
     returns-4
     returns-5)

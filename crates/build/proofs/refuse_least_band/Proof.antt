@@ -26,16 +26,19 @@ profile-right c =
 returns-2 : tie.Need-returns-2
 returns-2 c = rw (profile-right (c .before), lt-ltb 1023 (c .before .before .before .args .budget) (omega arith))
 
+is-scratch-short-requires : tie.Need-is-scratch-short-requires
+is-scratch-short-requires c κs = search needs
+
 returns-3 : tie.Need-returns-3
 returns-3 c =
-    let args = c .before .before .before .before .args in
-    rw (profile-right (c .before .before), le-ltb 1023 (args .budget) (omega arith), lt-ltb (args .numbers) 12288 (omega arith))
+    let args = c .before .before .before .before .before .args in
+    rw (profile-right (c .before .before .before), le-ltb 1023 (args .budget) (omega arith), sym (c .before .is-scratch-short .ensures) ∙ c .if3 .taken)
 
 returns-4 : tie.Need-returns-4
 returns-4 c =
-    let args = c .before .before .before .before .args in
-    rw (profile-right (c .before .before), le-ltb 1023 (args .budget) (omega arith), le-ltb (args .numbers) 12288 (omega arith))
+    let args = c .before .before .before .before .before .args in
+    rw (profile-right (c .before .before .before), le-ltb 1023 (args .budget) (omega arith), sym (c .before .is-scratch-short .ensures) ∙ c .if3 .left)
 
 pub refuse-least-band-spec : {M : Type 1} → statement M
 refuse-least-band-spec =
-    tie.close (tie.spec refuse-profile-requires returns returns-2 returns-3 returns-4)
+    tie.close (tie.spec refuse-profile-requires returns returns-2 is-scratch-short-requires returns-3 returns-4)

@@ -1,0 +1,138 @@
+-- The record of a profile's best synopsis: building is not refused, writing is refused with 6 alone, and the fields fit.
+use mathlib.Core.Path.{_≡_, refl, sym, ap, subst, _∙_}
+use mathlib.Core.Bool.{Bool, true, false, not, _||_}
+use mathlib.Core.List.{List, [], _∷_}
+use Prim.Native.Nat.{ℕ, zero, suc, _≤_, _<_}
+use native.Mathlib.Omega.{arith}
+use lib.Dec.{T, ltb}
+use lib.IntN.{ℤ, natAbs}
+use lib.ListN.{length, take, length-take}
+use borrow.Author.Tests.{le-ltb}
+use Rattle.limits.specs.Answers.{_when_, _then_, granted, laid}
+use Rattle.limits.specs.Limits.{beyond, outsideBand, outsideSlots, anyBeyond}
+use Rattle.limits.proofs.Refusals.{first-counts, granted-nothing, passed, slots-within}
+use Rattle.profile.specs.Text.{textRefusal, restOf, bandOf, setpointsOf}
+use Rattle.histogram.specs.declared.Term.{Term}
+use Rattle.histogram.specs.Tree.{padded}
+use Rattle.histogram.specs.Terms.{paired, valid}
+use Rattle.histogram.specs.Errors.{greatestError}
+use Rattle.histogram.proofs.Powers.{padded-bound}
+use Rattle.record.specs.Record.{recordLength, recordBytes}
+use Rattle.record.specs.Answers.{synopsisRefusal, writingRefusal, RecordWritten}
+use Rattle.claims.specs.Best.{Best}
+use Rattle.build.specs.Building.{profileRefusal, buildRefusal, Built, handedOver}
+use Rattle.panel.specs.Results.{packed, result, textToRecordRefusal, TextToRecord}
+use Rattle.panel.specs.Inner.{Fields, RightProfile, RecordBuilt}
+use Rattle.panel.proofs.Texts.{Held}
+use Rattle.panel.proofs.Packing.{refused-result}
+
+-- no more terms than nodes, and than values
+paired-nodes : (nodes : List ℕ) (values : List ℤ) → length (paired nodes values) ≤ length nodes
+unfolding paired
+paired-nodes [] values = omega arith
+paired-nodes (node ∷ nodes) [] = omega arith
+paired-nodes (node ∷ nodes) (value ∷ values) = omega (arith, paired-nodes nodes values)
+
+paired-values : (nodes : List ℕ) (values : List ℤ) → length (paired nodes values) ≤ length values
+unfolding paired
+paired-values [] values = omega arith
+paired-values (node ∷ nodes) [] = omega arith
+paired-values (node ∷ nodes) (value ∷ values) = omega (arith, paired-values nodes values)
+
+module _ (count : ℕ) (nodes : List ℕ) (values : List ℤ) (count-is : count ≡ length (handedOver count nodes values)) where
+  pub nodes-enough : count ≤ length nodes
+  nodes-enough = omega (arith, paired-nodes (take count nodes) (take count values), length-take count nodes)
+
+  pub values-enough : count ≤ length values
+  values-enough = omega (arith, paired-values (take count nodes) (take count values), length-take count values)
+
+module _ {profile : List ℤ} {rest band : ℤ} (right : RightProfile profile rest band) where
+  slots-right : (outsideSlots (length profile) ≡ false) × (2 when beyond 20000 rest then 2 when anyBeyond profile ≡ 0)
+  slots-right = passed 3 (outsideSlots (length profile)) _ (right .setpoints-right)
+
+  rest-right : beyond 20000 rest ≡ false
+  rest-right = passed 1 (beyond 20000 rest) _ (slots-right .1) .0
+
+  -- building with room for 512 terms is not refused
+  pub building-right : (places numbers : ℕ) → 512 ≤ places → 12288 ≤ numbers → buildRefusal profile rest band places numbers ≡ 0
+  building-right places numbers room scratch =
+      let few = slots-within (length profile) (slots-right .0) .few-slots in
+      rw (
+        right .setpoints-right,
+        right .band-right,
+        le-ltb places (padded (length profile)) (omega (arith, padded-bound few)),
+        le-ltb numbers 12288 scratch,
+      )
+
+  -- writing its terms is refused with 6 alone
+  pub writing-refusal : {terms : List Term} → Best profile rest (natAbs band) terms → (places : ℕ)
+      → writingRefusal (length profile) band rest terms places ≡ 6 when ltb places (recordLength (length terms))
+  writing-refusal {terms} best places =
+      rw (slots-right .0, rest-right, right .band-right, is-valid (valid (length profile) terms) (best .synopsis .valid))
+    where
+      is-valid : (test : Bool) → T test → not test ≡ false
+      is-valid true passes = refl
+
+  module _ {places numbers refusal count error : ℕ} {terms : List Term} (built : Built profile rest band places numbers refusal count error terms) (room : 512 ≤ places) (scratch : 12288 ≤ numbers) where
+    none-refused : refusal ≡ 0
+    none-refused = built .refusal-is ∙ building-right places numbers room scratch
+
+    pub is-best : Best profile rest (natAbs band) terms
+    is-best = built .best none-refused
+
+    error-is : error ≡ greatestError profile rest terms
+    error-is = rw none-refused at (built .error-is)
+
+    module _ {written bytes : ℕ} {before after : List ℕ} (record-written : RecordWritten (length profile) band rest terms written bytes before after) (number : ℕ) where
+      written-is : written ≡ 6 when ltb (length before) (recordLength (length terms))
+      written-is = record-written .refusal-is ∙ writing-refusal is-best (length before)
+
+      destination : after ≡ laid (granted (6 when ltb (length before) (recordLength (length terms))) (recordBytes (length profile) (natAbs band) rest terms) []) before
+      destination = rw (written-is) at (record-written .destination-is)
+
+      pub record-refused : 0 < written → number ≡ packed written 0 0 0 → RecordBuilt profile rest band before after number
+      record-refused wrong number-is = record {
+        terms = terms;
+        best = is-best;
+        result-is = number-is ∙ rw (← written-is) (refused-result written _ _ _ wrong);
+        destination-is = destination;
+      }
+
+      pub record-built : written ≤ 0 → number ≡ packed 0 bytes count error → RecordBuilt profile rest band before after number
+      record-built right′ number-is =
+          let none : written ≡ 0 = omega arith in
+          let bytes-are : bytes ≡ recordLength (length terms) = rw none at (record-written .count-is) in
+          record {
+            terms = terms;
+            best = is-best;
+            result-is = number-is ∙ rw (← written-is, none, bytes-are, built .count-is, error-is);
+            destination-is = destination;
+          }
+
+      -- the record is no longer than that of 512 terms
+      pub bytes-few : count ≤ 512 → written ≤ 0 → bytes ≤ 3332
+      bytes-few few right′ =
+          let none : written ≡ 0 = omega arith in
+          let bytes-are : bytes ≡ recordLength (length terms) = rw none at (record-written .count-is) in
+          omega (arith, built .count-is)
+
+-- ---- text to record
+
+pub text-refused : (text before : List ℕ) (refusal number : ℕ) → refusal ≡ textRefusal text → 0 < refusal → number ≡ packed refusal 0 0 0 → TextToRecord text before before number
+text-refused text before refusal number is wrong number-is =
+    let counts : textToRecordRefusal text [] (length before) ≡ refusal = rw (← is) (first-counts refusal _ wrong) in
+    record {
+      terms = [];
+      best = λ none. absurd (omega (arith, is));
+      result-is = number-is ∙ rw counts (refused-result refusal _ _ _ wrong);
+      destination-is = sym (rw (counts, granted-nothing refusal (recordBytes (length (setpointsOf text)) (natAbs (bandOf text)) (restOf text) []) [] wrong));
+    }
+
+pub text-built : {text : List ℕ} {rest band : ℤ} {slots : ℕ} {room profile : List ℤ} {before after : List ℕ} {number : ℕ} → Held text rest band slots room
+    → profile ≡ setpointsOf text → RecordBuilt profile rest band before after number → TextToRecord text before after number
+text-built {text} {before = before} held profile-is built = record {
+  terms = built .terms;
+  best = λ right. rw (profile-is, held .rest-is, held .band-is) at (built .best);
+  result-is = rw (held .not-refused) (rw (profile-is, held .rest-is) at (built .result-is));
+  destination-is = rw (held .not-refused) (rw (profile-is, held .rest-is, held .band-is) at (built .destination-is));
+}

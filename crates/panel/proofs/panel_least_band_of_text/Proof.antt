@@ -1,0 +1,88 @@
+-- `panel::panel_least_band_of_text` meets its contract.
+use borrow.Author.Needs.{needs}
+use mathlib.Core.Path.{sym, _∙_}
+use native.Mathlib.Omega.{arith}
+use lib.Seq.{length-take-le}
+use mir.Facts.{toZ-ofZ}
+use Rattle.panel.proofs.Texts.{held, rest-fits}
+use Rattle.panel.proofs.Packing.{least-refused, budget-refused, least-packed}
+use Rattle.panel.proofs.panel_least_band_of_text.Statement.{statement}
+use Rattle.panel.proofs.panel_least_band_of_text.Tie as tie
+
+slice-aggregate-read-text : tie.Need-slice-aggregate-read-text
+slice-aggregate-read-text c = search needs
+
+read-text-requires : tie.Need-read-text-requires
+read-text-requires c κs = search needs
+
+cast-pack : tie.Need-cast-pack
+cast-pack c = search needs
+
+pack-requires : tie.Need-pack-requires
+pack-requires c κs = search needs
+
+returns : tie.Need-returns
+returns c =
+    let args = c .before .before .before .before .before .before .before .before .args in
+    let read = c .before .before .before .before .before .read-text in
+    least-refused (args .text .now) (args .budget) (read .result .refusal) (c .pack .result) (read .ensures .refusal-is) (omega arith) (c .pack .ensures)
+
+pack-requires-2 : tie.Need-pack-requires-2
+pack-requires-2 c κs = search needs
+
+returns-2 : tie.Need-returns-2
+returns-2 c =
+    let args = c .before .before .before .before .before .before .before .before .args in
+    let read = c .before .before .before .before .before .read-text in
+    budget-refused (args .text .now) (args .budget) (c .pack2 .result) (held (read .ensures) (omega arith) .not-refused) (omega arith) (c .pack2 .ensures)
+
+array-share-prefix-setpoints : tie.Need-array-share-prefix-setpoints
+array-share-prefix-setpoints c = held (c .before .before .before .before .read-text .ensures) (omega arith) .inside
+
+slice-aggregate-least-band : tie.Need-slice-aggregate-least-band
+slice-aggregate-least-band c = sym (length-take-le _ _ (held (c .before .before .before .before .before .read-text .ensures) (omega arith) .inside))
+
+cast-least-band : tie.Need-cast-least-band
+cast-least-band c = search needs
+
+slice-aggregate-least-band-2 : tie.Need-slice-aggregate-least-band-2
+slice-aggregate-least-band-2 c = search needs
+
+least-band-requires : tie.Need-least-band-requires
+least-band-requires c κs = search needs
+
+cast-pack-2 : tie.Need-cast-pack-2
+cast-pack-2 c = search needs
+
+pack-requires-3 : tie.Need-pack-requires-3
+pack-requires-3 c κs = search needs
+
+returns-3 : tie.Need-returns-3
+returns-3 c =
+    let start = c .before .before .before .before .before .before .before .before .before .before .before .before .before .before in
+    let args = start .args in
+    let read = c .before .before .before .before .before .before .before .before .before .before .before .read-text in
+    let found = c .before .before .before .least-band in
+    let of-text = held (read .ensures) (omega arith) in
+    least-packed (args .text .now) (read .result .rest) (read .result .band) (read .result .slots) (read .last .1 .0) (args .budget) (found .result .refusal) (found .result .band) (c .pack3 .result) _ _ _
+    of-text (omega arith) (of-text .setpoints-are) (omega arith) (rw (toZ-ofZ (rest-fits of-text)) at (found .ensures)) (c .pack3 .ensures)
+
+pub panel-least-band-of-text-spec : {M : Type 1} → statement M
+panel-least-band-of-text-spec =
+    tie.close
+    (tie.spec
+    slice-aggregate-read-text
+    read-text-requires
+    cast-pack
+    pack-requires
+    returns
+    pack-requires-2
+    returns-2
+    array-share-prefix-setpoints
+    slice-aggregate-least-band
+    cast-least-band
+    slice-aggregate-least-band-2
+    least-band-requires
+    cast-pack-2
+    pack-requires-3
+    returns-3)

@@ -1,0 +1,66 @@
+-- The four calls from C: document 01, "Building, checking, least band", its last paragraph, and "What the panel turns away". For the auditor.
+-- A result packs four 16-bit fields, lowest first: the refusal's number, and three more that a refusal leaves 0.
+use mathlib.Core.Path.{_≡_}
+use mathlib.Core.Bool.{cond}
+use mathlib.Core.List.{List, []}
+use Prim.Native.Nat.{ℕ, _+_, _*_}
+use lib.Dec.{ltb}
+use lib.IntN.{ℤ, pos, natAbs}
+use lib.ListN.{length}
+use Rattle.limits.specs.Answers.{_when_, _then_, granted, laid}
+use Rattle.profile.specs.Text.{textRefusal, restOf, bandOf, setpointsOf}
+use Rattle.bits.specs.Signed.{complement}
+use Rattle.histogram.specs.declared.Term.{Term}
+use Rattle.histogram.specs.Restored.{restoredSlot}
+use Rattle.histogram.specs.Errors.{greatestError}
+use Rattle.record.specs.Record.{recordLength, recordBytes, slotsIn, bandIn, restIn, termsIn}
+use Rattle.record_check.specs.Checking.{slotRefusal, checkRefusal, kept, lowestBeyond}
+use Rattle.claims.specs.Best.{Best}
+use Rattle.claims.specs.LeastBand.{LeastBand}
+
+abbrev pub packed : ℕ → ℕ → ℕ → ℕ → ℕ
+packed refusal first second third = refusal + 65536 * (first + 65536 * (second + 65536 * third))
+
+-- the refusal, and where it is none three fields
+abbrev pub result : ℕ → ℕ → ℕ → ℕ → ℕ
+result refusal first second third = packed refusal (granted refusal first 0) (granted refusal second 0) (granted refusal third 0)
+
+-- "Text to record: text, then 6 if the destination is shorter than the record"
+abbrev pub textToRecordRefusal : List ℕ → List Term → ℕ → ℕ
+textToRecordRefusal text terms places = textRefusal text then 6 when ltb places (recordLength (length terms))
+
+-- text to record: bytes written, terms, greatest error, of the terms that the record holds
+pub record TextToRecord (text before after : List ℕ) (number : ℕ) : Type 0 where
+  pub terms : List Term
+  pub best : textRefusal text ≡ 0 → Best (setpointsOf text) (restOf text) (natAbs (bandOf text)) terms
+  pub result-is : number
+      ≡ result (textToRecordRefusal text terms (length before)) (recordLength (length terms)) (length terms) (greatestError (setpointsOf text) (restOf text) terms)
+  pub destination-is : after
+      ≡ laid (granted (textToRecordRefusal text terms (length before)) (recordBytes (length (setpointsOf text)) (natAbs (bandOf text)) (restOf text) terms) []) before
+
+-- one slot of a record: the setpoint in two's complement, 0, 0
+abbrev pub slotResult : List ℕ → ℕ → ℕ
+slotResult bytes slot = result (slotRefusal bytes slot) (complement 16 (restoredSlot (slotsIn bytes) (restIn bytes) (termsIn bytes) slot)) 0 0
+
+-- "Record against text: text, then the check's"
+abbrev pub againstTextRefusal : List ℕ → List ℕ → ℕ
+againstTextRefusal bytes text = textRefusal text then checkRefusal (setpointsOf text) bytes
+
+-- record against text: 1 for kept and 0 for not kept, the greatest error, the lowest slot that exceeds the band
+abbrev pub againstTextResult : List ℕ → List ℕ → ℕ
+againstTextResult bytes text =
+    let is-kept = kept (setpointsOf text) (restIn bytes) (termsIn bytes) (bandIn bytes) in
+    result (againstTextRefusal bytes text)
+    (1 when is-kept)
+    (cond is-kept (greatestError (setpointsOf text) (restIn bytes) (termsIn bytes)) 0)
+    (cond is-kept 0 (lowestBeyond (setpointsOf text) (restIn bytes) (termsIn bytes) (bandIn bytes)))
+
+-- "Least band of a text: text, then 5"
+abbrev pub leastBandOfTextRefusal : List ℕ → ℕ → ℕ
+leastBandOfTextRefusal text budget = textRefusal text then 5 when ltb 1023 budget
+
+-- least band of a text: the band, 0, 0
+pub record LeastBandOfText (text : List ℕ) (budget number : ℕ) : Type 0 where
+  pub band : ℕ
+  pub least : leastBandOfTextRefusal text budget ≡ 0 → LeastBand (setpointsOf text) (restOf text) budget band
+  pub result-is : number ≡ result (leastBandOfTextRefusal text budget) band 0 0

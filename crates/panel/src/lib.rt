@@ -1,0 +1,118 @@
+// The library's face for C: numbers and byte slices alone. Every call answers with one number of four 16-bit fields.
+use bits::complement_of;
+use build::build_synopsis;
+use build::least_band;
+use profile::read_text;
+use record_check::check_record;
+use record_check::read_slot;
+use record_write::write_record;
+ghost use mathlib.Core.Path.{_≡_};
+ghost use Rattle.limits.specs.Answers.{_when_};
+ghost use Rattle.panel.specs.Results.{packed, slotResult, againstTextResult, TextToRecord, LeastBandOfText};
+ghost use Rattle.panel.specs.Inner.{Fields, RightProfile, RecordBuilt};
+
+// A profile text to the record of its best synopsis: bytes written, terms, greatest error.
+#[no_mangle]
+pub extern "C" fn panel_text_to_record(text: &[u8], destination: &mut [u8]) -> u64
+    ensures { λ r. ⌜ TextToRecord (now (text .entry)) (now (destination .entry)) (now (destination .exit)) r ⌝ }
+{
+    let mut setpoints = [0i16; 512];
+    let read = read_text(text, &mut setpoints);
+    if 0 < read.refusal {
+        return pack(read.refusal as u64, 0, 0, 0);
+    }
+    let slots = read.slots;
+    build_record(&setpoints[..slots], read.rest, read.band, destination)
+}
+
+// The record of a profile's best synopsis.
+fn build_record(setpoints: &[i16], rest: i32, band: i32, destination: &mut [u8]) -> u64
+    requires { ⌜ RightProfile (now setpoints) rest band ⌝ }
+    ensures { λ r. ⌜ RecordBuilt (now (setpoints .entry)) rest band (now (destination .entry)) (now (destination .exit)) r ⌝ }
+{
+    let mut nodes = [0u16; 512];
+    let mut values = [0i16; 512];
+    let mut scratch = [0i16; 12288];
+    let built = build_synopsis(setpoints, rest, band, &mut nodes, &mut values, &mut scratch);
+    let count = built.count;
+    let written = write_record(
+        setpoints.len(),
+        band,
+        rest,
+        &nodes[..count],
+        &values[..count],
+        destination,
+    );
+    if 0 < written.refusal {
+        return pack(written.refusal as u64, 0, 0, 0);
+    }
+    pack(0, written.count as u64, count as u64, built.error as u64)
+}
+
+// One slot of a record: the setpoint in two's complement.
+#[no_mangle]
+pub extern "C" fn panel_record_slot(bytes: &[u8], slot: u64) -> u64
+    ensures { λ r. ⌜ r ≡ slotResult (now (bytes .entry)) slot ⌝ }
+{
+    let answer = read_slot(bytes, slot as usize);
+    pack(
+        answer.refusal as u64,
+        complement_of(16, answer.setpoint) as u64,
+        0,
+        0,
+    )
+}
+
+// A record against a text: whether the band is kept, the greatest error, the lowest slot that exceeds the band.
+#[no_mangle]
+pub extern "C" fn panel_record_against_text(bytes: &[u8], text: &[u8]) -> u64
+    ensures { λ r. ⌜ r ≡ againstTextResult (now (bytes .entry)) (now (text .entry)) ⌝ }
+{
+    let mut setpoints = [0i16; 512];
+    let read = read_text(text, &mut setpoints);
+    if 0 < read.refusal {
+        return pack(read.refusal as u64, 0, 0, 0);
+    }
+    let slots = read.slots;
+    let answer = check_record(&setpoints[..slots], bytes);
+    pack(
+        answer.refusal as u64,
+        number_of(answer.kept),
+        answer.error as u64,
+        answer.slot as u64,
+    )
+}
+
+// The least band of a text for a number of terms.
+#[no_mangle]
+pub extern "C" fn panel_least_band_of_text(text: &[u8], budget: u64) -> u64
+    ensures { λ r. ⌜ LeastBandOfText (now (text .entry)) budget r ⌝ }
+{
+    let mut setpoints = [0i16; 512];
+    let read = read_text(text, &mut setpoints);
+    if 0 < read.refusal {
+        return pack(read.refusal as u64, 0, 0, 0);
+    }
+    if 1023 < budget {
+        return pack(5, 0, 0, 0);
+    }
+    let slots = read.slots;
+    let mut scratch = [0i16; 12288];
+    let answer = least_band(&setpoints[..slots], read.rest, budget as u32, &mut scratch);
+    pack(0, answer.band as u64, 0, 0)
+}
+
+// Four fields in one number, lowest first.
+fn pack(refusal: u64, first: u64, second: u64, third: u64) -> u64
+    requires { ⌜ Fields refusal first second third ⌝ }
+    ensures { λ r. ⌜ r ≡ packed refusal first second third ⌝ }
+{
+    refusal + 65536 * (first + 65536 * (second + 65536 * third))
+}
+
+// 1 where a test holds, and 0 where not.
+fn number_of(test: bool) -> u64
+    ensures { λ r. ⌜ r ≡ 1 when test ⌝ }
+{
+    if test { 1 } else { 0 }
+}
