@@ -1,0 +1,162 @@
+/* Building a best synopsis, and the least band for a number of terms.
+ *
+ * Both go by sets of values, as sorted windows, from the slots up to the root: the values that can come in
+ * from above without a term more. A node's set is what is in both of its children's sets; where they do not
+ * meet it is what is in either, and the node costs a term. The least band is found by halving.
+ */
+#include "parts.h"
+
+enum { HEIGHTS = 10 };
+
+struct window {
+    int16_t low;
+    int16_t high;
+};
+
+/* The set of every node. A node of height h has room for 2^h windows, so each height fills one row. */
+struct tree {
+    struct window windows[HEIGHTS][MOST_SLOTS];
+    uint16_t counts[MOST_NODES];
+};
+
+/* Writes what is in both of two sets; the answer is the number of its windows. */
+static int meet(const struct window *left, int lefts, const struct window *right, int rights, struct window *both)
+{
+    int i = 0, j = 0, count = 0;
+    while (i < lefts && j < rights) {
+        int16_t low = left[i].low > right[j].low ? left[i].low : right[j].low;
+        int16_t high = left[i].high < right[j].high ? left[i].high : right[j].high;
+        if (low <= high) {
+            both[count].low = low;
+            both[count].high = high;
+            count++;
+        }
+        if (left[i].high < right[j].high)
+            i++;
+        else
+            j++;
+    }
+    return count;
+}
+
+/* Writes what is in either of two sets that do not meet. */
+static int join(const struct window *left, int lefts, const struct window *right, int rights, struct window *either)
+{
+    int i = 0, j = 0, count = 0;
+    while (i < lefts && j < rights)
+        either[count++] = left[i].low < right[j].low ? left[i++] : right[j++];
+    while (i < lefts)
+        either[count++] = left[i++];
+    while (j < rights)
+        either[count++] = right[j++];
+    return count;
+}
+
+static bool is_in(const struct window *windows, int count, int value)
+{
+    for (int i = 0; i < count; i++)
+        if (value <= windows[i].high)
+            return windows[i].low <= value;
+    return false;
+}
+
+static void write_leaves(const struct profile *profile, int band, struct tree *tree)
+{
+    for (int slot = 0; slot < profile->leaves; slot++) {
+        int low = profile->setpoints[slot] - band;
+        int high = profile->setpoints[slot] + band;
+        tree->windows[0][slot].low = (int16_t)(low < -MOST_VALUE ? -MOST_VALUE : low);
+        tree->windows[0][slot].high = (int16_t)(high > MOST_VALUE ? MOST_VALUE : high);
+        tree->counts[profile->leaves + slot] = 1;
+    }
+}
+
+/* Finds every node's set for a band; the answer is the fewest terms that keep it. */
+static int fewest_terms(const struct profile *profile, int band, struct tree *tree)
+{
+    int terms = 0;
+    int height = 0;
+    write_leaves(profile, band, tree);
+    for (int nodes = profile->leaves / 2; nodes > 0; nodes /= 2) {
+        int room = 1 << height;
+        for (int i = 0; i < nodes; i++) {
+            const struct window *left = &tree->windows[height][2 * i * room];
+            const struct window *right = left + room;
+            struct window *own = &tree->windows[height + 1][2 * i * room];
+            int lefts = tree->counts[2 * (nodes + i)];
+            int rights = tree->counts[2 * (nodes + i) + 1];
+            int count = meet(left, lefts, right, rights, own);
+            if (count == 0) {
+                count = join(left, lefts, right, rights, own);
+                terms++;
+            }
+            tree->counts[nodes + i] = (uint16_t)count;
+        }
+        height++;
+    }
+    return is_in(tree->windows[height], tree->counts[1], profile->rest) ? terms : terms + 1;
+}
+
+/* The least band up to `top` for which `budget` terms are enough; they are for `top`. */
+static int least_band_within(const struct profile *profile, int budget, int top, struct tree *tree)
+{
+    int low = 0;
+    int high = top;
+    while (low < high) {
+        int middle = (low + high) / 2;
+        if (fewest_terms(profile, middle, tree) <= budget)
+            high = middle;
+        else
+            low = middle + 1;
+    }
+    return high;
+}
+
+/* Goes down the tree level by level: a term, of the least value of the node's set, where what comes in is not in the set. */
+static int write_terms(const struct profile *profile, const struct tree *tree, struct term *terms)
+{
+    int16_t incoming[MOST_NODES];
+    int count = 0;
+    int height = 0;
+    while (1 << height < profile->leaves)
+        height++;
+    incoming[1] = (int16_t)profile->rest;
+    for (int first = 1; first <= profile->leaves; first *= 2, height--) {
+        for (int node = first; node < 2 * first; node++) {
+            const struct window *windows = &tree->windows[height][(node - first) << height];
+            int16_t value = incoming[node];
+            if (!is_in(windows, tree->counts[node], value)) {
+                value = windows[0].low;
+                terms[count].node = (uint16_t)node;
+                terms[count].value = value;
+                count++;
+            }
+            if (node < profile->leaves) {
+                incoming[2 * node] = value;
+                incoming[2 * node + 1] = value;
+            }
+        }
+    }
+    return count;
+}
+
+int build(const struct profile *profile, struct synopsis *synopsis)
+{
+    struct tree tree;
+    int budget = fewest_terms(profile, profile->band, &tree);
+    int error = least_band_within(profile, budget, profile->band, &tree);
+    fewest_terms(profile, error, &tree);
+    synopsis->slots = profile->slots;
+    synopsis->leaves = profile->leaves;
+    synopsis->band = profile->band;
+    synopsis->rest = profile->rest;
+    synopsis->count = write_terms(profile, &tree, synopsis->terms);
+    return error;
+}
+
+/* The band 400,00 takes in every value: no term is needed. */
+int least_band(const struct profile *profile, int budget)
+{
+    struct tree tree;
+    return least_band_within(profile, budget, MOST_BAND, &tree);
+}

@@ -1,0 +1,67 @@
+/* What the parts of the plain version share: limits, a profile, a synopsis. */
+#ifndef PARTS_H
+#define PARTS_H
+
+#include <stdbool.h>
+#include <stddef.h>
+#include <stdint.h>
+
+enum {
+    MOST_SLOTS = 512,
+    MOST_NODES = 2 * MOST_SLOTS,
+    MOST_TERMS = MOST_NODES - 1,
+    MOST_VALUE = 20000,
+    MOST_BAND = 40000,
+    MOST_BUDGET = 1023
+};
+
+/* A profile's setpoints, with filler up to `leaves`, the power of two that the tree stands on. */
+struct profile {
+    int rest;
+    int band;
+    int slots;
+    int leaves;
+    int16_t setpoints[MOST_SLOTS];
+};
+
+struct term {
+    uint16_t node;
+    int16_t value;
+};
+
+struct synopsis {
+    int slots;
+    int leaves;
+    int band;
+    int rest;
+    int count;
+    struct term terms[MOST_TERMS];
+};
+
+static inline bool is_beyond(int value)
+{
+    return value < -MOST_VALUE || value > MOST_VALUE;
+}
+
+static inline int leaves_over(int slots)
+{
+    int leaves = 1;
+    while (leaves < slots)
+        leaves *= 2;
+    return leaves;
+}
+
+/* Both readers answer with the refusal, 0 for none. */
+int read_profile(const uint8_t *text, size_t length, struct profile *profile);
+int read_record(const uint8_t *record, size_t length, struct synopsis *synopsis);
+
+size_t record_bytes(int terms);
+void write_record(const struct synopsis *synopsis, uint8_t *record);
+
+/* Builds a best synopsis; the answer is its greatest error. */
+int build(const struct profile *profile, struct synopsis *synopsis);
+
+/* The least band for which `budget` terms are enough. */
+int least_band(const struct profile *profile, int budget);
+
+#endif

@@ -1,0 +1,106 @@
+/* The panel's four calls in plain C: the yardstick for speed, and a second opinion on every result. */
+#include "plain.h"
+
+#include "parts.h"
+
+static uint64_t refused(int refusal)
+{
+    return (uint64_t)refusal;
+}
+
+static uint64_t granted(unsigned first, unsigned second, unsigned third)
+{
+    return (uint64_t)first << 16 | (uint64_t)second << 32 | (uint64_t)third << 48;
+}
+
+/* The value of the lowest term on the path from a node up to the root. Terms ascend, so both go down together. */
+static int restored(const struct synopsis *synopsis, unsigned node)
+{
+    for (int i = synopsis->count - 1; i >= 0; i--) {
+        while (node > synopsis->terms[i].node)
+            node /= 2;
+        if (node == synopsis->terms[i].node)
+            return synopsis->terms[i].value;
+    }
+    return synopsis->rest;
+}
+
+/* Hands values down from the root to every node; what comes in at the root stands at 0. */
+static void restore_nodes(const struct synopsis *synopsis, int16_t *values)
+{
+    int next = 0;
+    values[0] = (int16_t)synopsis->rest;
+    for (int node = 1; node < 2 * synopsis->leaves; node++) {
+        values[node] = values[node / 2];
+        if (next < synopsis->count && synopsis->terms[next].node == node)
+            values[node] = synopsis->terms[next++].value;
+    }
+}
+
+static uint64_t check(const struct profile *profile, const struct synopsis *synopsis)
+{
+    int16_t values[MOST_NODES];
+    int greatest = 0;
+    restore_nodes(synopsis, values);
+    for (int slot = 0; slot < profile->leaves; slot++) {
+        int error = profile->setpoints[slot] - values[profile->leaves + slot];
+        if (error < 0)
+            error = -error;
+        if (error > synopsis->band)
+            return granted(0, 0, (unsigned)slot);
+        if (error > greatest)
+            greatest = error;
+    }
+    return granted(1, (unsigned)greatest, 0);
+}
+
+uint64_t plain_text_to_record(const uint8_t *text, size_t text_len, uint8_t *record, size_t record_len)
+{
+    struct profile profile;
+    struct synopsis synopsis;
+    int refusal = read_profile(text, text_len, &profile);
+    if (refusal != 0)
+        return refused(refusal);
+    int error = build(&profile, &synopsis);
+    size_t bytes = record_bytes(synopsis.count);
+    if (record_len < bytes)
+        return refused(6);
+    write_record(&synopsis, record);
+    return granted((unsigned)bytes, (unsigned)synopsis.count, (unsigned)error);
+}
+
+uint64_t plain_record_slot(const uint8_t *record, size_t record_len, uint64_t slot)
+{
+    struct synopsis synopsis;
+    int refusal = read_record(record, record_len, &synopsis);
+    if (refusal != 0)
+        return refused(refusal);
+    if (slot >= (uint64_t)synopsis.slots)
+        return refused(10);
+    return granted((uint16_t)restored(&synopsis, (unsigned)synopsis.leaves + (unsigned)slot), 0, 0);
+}
+
+uint64_t plain_record_against_text(const uint8_t *record, size_t record_len, const uint8_t *text, size_t text_len)
+{
+    struct profile profile;
+    struct synopsis synopsis;
+    int refusal = read_profile(text, text_len, &profile);
+    if (refusal == 0)
+        refusal = read_record(record, record_len, &synopsis);
+    if (refusal != 0)
+        return refused(refusal);
+    if (synopsis.slots != profile.slots)
+        return refused(9);
+    return check(&profile, &synopsis);
+}
+
+uint64_t plain_least_band_of_text(const uint8_t *text, size_t text_len, uint64_t budget)
+{
+    struct profile profile;
+    int refusal = read_profile(text, text_len, &profile);
+    if (refusal != 0)
+        return refused(refusal);
+    if (budget > MOST_BUDGET)
+        return refused(5);
+    return granted((unsigned)least_band(&profile, (int)budget), 0, 0);
+}

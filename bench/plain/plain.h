@@ -1,0 +1,13 @@
+/* The panel's four calls in plain C, with the arguments and packed results of include/panel.h. */
+#ifndef PLAIN_H
+#define PLAIN_H
+
+#include <stddef.h>
+#include <stdint.h>
+
+uint64_t plain_text_to_record(const uint8_t *text, size_t text_len, uint8_t *record, size_t record_len);
+uint64_t plain_record_slot(const uint8_t *record, size_t record_len, uint64_t slot);
+uint64_t plain_record_against_text(const uint8_t *record, size_t record_len, const uint8_t *text, size_t text_len);
+uint64_t plain_least_band_of_text(const uint8_t *text, size_t text_len, uint64_t budget);
+
+#endif

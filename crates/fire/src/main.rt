@@ -1,0 +1,121 @@
+// Fires a profile text from standard input: document 01, "One firing in full".
+use build::build_synopsis;
+use decimal::write::write_number;
+use histogram::restore::restore_profile;
+use libc::STDIN_FILENO;
+use libc::STDOUT_FILENO;
+use profile::read_text;
+ghost use mathlib.Core.Path.{_≡_};
+ghost use Prim.Native.Nat.{_≤_};
+ghost use lib.ListN.{length};
+
+fn main() {
+    // The first 4,113 bytes decide. An accepted text has at most 514 lines of 8 bytes, as `-200,00` and the byte 10.
+    // Of a longer text they hold a line that is refused, since more than 7 bytes stand before its end, or 514 lines and a byte more.
+    let mut text = [0u8; 4113];
+    let count = io::read_full(STDIN_FILENO, &mut text);
+    fire(&text[..count]);
+}
+
+fn fire(text: &[u8]) {
+    let mut setpoints = [0i16; 512];
+    let read = read_text(text, &mut setpoints);
+    if 0 < read.refusal {
+        print_refused(read.refusal);
+        return;
+    }
+    let slots = read.slots;
+    fire_profile(&setpoints[..slots], read.rest, read.band);
+}
+
+fn fire_profile(setpoints: &[i16], rest: i32, band: i32)
+    requires { ⌜ length (now setpoints) ≤ 512 ⌝ }
+{
+    let mut nodes = [0u16; 512];
+    let mut values = [0i16; 512];
+    let mut scratch = [0i16; 12288];
+    let built = build_synopsis(setpoints, rest, band, &mut nodes, &mut values, &mut scratch);
+    if 0 < built.refusal {
+        print_refused(built.refusal);
+        return;
+    }
+    let count = built.count;
+    print_summary(setpoints.len(), count, band, built.error);
+    print_synopsis(setpoints.len(), rest, &nodes[..count], &values[..count]);
+}
+
+fn print_synopsis(slots: usize, rest: i32, nodes: &[u16], values: &[i16])
+    requires { ⌜ (slots ≤ 512) × (length (now nodes) ≡ length (now values)) ⌝ }
+{
+    print_terms(nodes, values);
+    print_slots(slots, rest, nodes, values);
+}
+
+fn print_refused(refusal: u8) {
+    print(b"refused ");
+    print_count(refusal as usize);
+    print(b"\n");
+}
+
+fn print_summary(slots: usize, terms: usize, band: i32, error: u16) {
+    print_count(slots);
+    print(b" ");
+    print_count(terms);
+    print(b" ");
+    print_hundredths(band);
+    print(b" ");
+    print_hundredths(error as i32);
+    print(b"\n");
+}
+
+fn print_terms(nodes: &[u16], values: &[i16])
+    requires { ⌜ length (now nodes) ≡ length (now values) ⌝ }
+{
+    let mut i = 0;
+    while i < nodes.len() {
+        let node = nodes[i];
+        let value = values[i];
+        print_line(b"term ", wide(node), value);
+        i += 1;
+    }
+}
+
+fn wide(node: u16) -> usize {
+    node as usize
+}
+
+fn print_slots(slots: usize, rest: i32, nodes: &[u16], values: &[i16])
+    requires { ⌜ (slots ≤ 512) × (length (now nodes) ≡ length (now values)) ⌝ }
+{
+    let mut restored = [0i16; 512];
+    restore_profile(slots, rest, nodes, values, &mut restored);
+    let mut slot = 0;
+    while slot < slots {
+        let value = restored[slot];
+        print_line(b"slot ", slot, value);
+        slot += 1;
+    }
+}
+
+fn print_line(name: &[u8], number: usize, value: i16) {
+    print(name);
+    print_count(number);
+    print(b" ");
+    print_hundredths(value as i32);
+    print(b"\n");
+}
+
+fn print_hundredths(number: i32) {
+    let mut text = [0u8; 8];
+    let written = write_number(number, &mut text);
+    let count = written.count;
+    print(&text[..count]);
+}
+
+fn print_count(count: usize) {
+    io::print_decimal(STDOUT_FILENO, count as u64);
+}
+
+fn print(text: &[u8]) {
+    io::write_all(STDOUT_FILENO, text);
+}

@@ -1,0 +1,164 @@
+/* A first program on the burner panel's library: profile text to record, slots read back, the record
+ * checked against its text, and the least band for a few budgets.
+ *
+ *     main            the profile below, and a text that is refused
+ *     main FILE       the profile text in a file
+ */
+#include "panel.h"
+
+#include <stdio.h>
+#include <string.h>
+
+static const char EMBEDDED[] = "14,00\n0,25\n14,10\n13,90\n20,00\n19,50\n";
+static const char FAULTY[] = "14,00\n0,25\n14,10\n13,\n";
+
+/* Static, as in firmware: the stack is for the calls. One byte more than can be accepted, so that a longer file is refused and not cut. */
+static uint8_t text[PANEL_MOST_TEXT_BYTES + 1];
+static uint8_t record[PANEL_MOST_BUILT_BYTES];
+
+static const char *meaning(enum panel_refusal refusal)
+{
+    switch (refusal) {
+    case PANEL_GRANTED: return "granted";
+    case PANEL_NOT_A_NUMBER: return "a line is not a number";
+    case PANEL_VALUE_BEYOND: return "a value is beyond 200,00";
+    case PANEL_BAND_BEYOND: return "the band is not in 0,00 to 400,00";
+    case PANEL_SLOTS_BEYOND: return "there are no setpoints, or more than 512";
+    case PANEL_BUDGET_BEYOND: return "the budget is above 1,023";
+    case PANEL_OUTPUT_SHORT: return "the record does not fit";
+    case PANEL_NOT_A_RECORD: return "these bytes are not a record";
+    case PANEL_TERMS_WRONG: return "the record's terms are wrong";
+    case PANEL_LENGTH_DIFFERS: return "the record is for another number of slots";
+    case PANEL_NO_SUCH_SLOT: return "there is no such slot";
+    }
+    return "unknown";
+}
+
+static int is_refused(const char *call, uint64_t result)
+{
+    enum panel_refusal refusal = panel_refusal(result);
+    if (refusal == PANEL_GRANTED)
+        return 0;
+    printf("%s: refused %d, %s\n", call, (int)refusal, meaning(refusal));
+    return 1;
+}
+
+static void print_value(const char *before, int32_t hundredths)
+{
+    int32_t size = hundredths < 0 ? -hundredths : hundredths;
+    printf("%s%s%d,%02d", before, hundredths < 0 ? "-" : "", (int)(size / 100), (int)(size % 100));
+}
+
+static void print_bytes(size_t length)
+{
+    for (size_t i = 0; i < length; i++)
+        printf(" %02X", record[i]);
+}
+
+/* Builds the record; the answer is its length, 0 where the text was refused. */
+static size_t build(size_t text_len)
+{
+    uint64_t built = panel_text_to_record(text, text_len, record, sizeof record);
+    if (is_refused("text to record", built))
+        return 0;
+    size_t length = panel_bytes_written(built);
+    printf("record: %zu bytes for %zu bytes of text, terms %u", length, text_len, (unsigned)panel_terms(built));
+    print_value(", greatest error ", panel_greatest_error(built));
+    printf("\nfirst bytes:");
+    print_bytes(length < 11 ? length : 11);
+    printf("\n");
+    return length;
+}
+
+/* Prints every slot, eight to a line. The first slot that is not there ends the profile. */
+static void read_back(size_t record_len)
+{
+    uint64_t slot = 0;
+    uint64_t found = panel_record_slot(record, record_len, slot);
+    while (panel_refusal(found) == PANEL_GRANTED) {
+        if (slot % 8 == 0)
+            printf("slot %3u:", (unsigned)slot);
+        print_value(" ", panel_setpoint(found));
+        slot++;
+        if (slot % 8 == 0)
+            printf("\n");
+        found = panel_record_slot(record, record_len, slot);
+    }
+    if (slot % 8 != 0)
+        printf("\n");
+    if (panel_refusal(found) == PANEL_NO_SUCH_SLOT)
+        printf("slots: %u\n", (unsigned)slot);
+    else
+        is_refused("one slot", found);
+}
+
+static void check(size_t record_len, size_t text_len)
+{
+    uint64_t checked = panel_record_against_text(record, record_len, text, text_len);
+    if (is_refused("record against text", checked))
+        return;
+    if (panel_kept(checked)) {
+        print_value("kept, greatest error ", panel_check_error(checked));
+        printf("\n");
+    } else {
+        printf("not kept in slot %u\n", (unsigned)panel_lowest_slot(checked));
+    }
+}
+
+static void ask_least_bands(size_t text_len)
+{
+    static const uint64_t budgets[] = { 0, 1, 4, 16 };
+    for (size_t i = 0; i < sizeof budgets / sizeof budgets[0]; i++) {
+        uint64_t least = panel_least_band_of_text(text, text_len, budgets[i]);
+        if (is_refused("least band", least))
+            return;
+        printf("least band for a budget of %u", (unsigned)budgets[i]);
+        print_value(": ", panel_least_band(least));
+        printf("\n");
+    }
+}
+
+/* The answer is the program's exit status. */
+static int fire(const char *name, size_t text_len)
+{
+    printf("== %s\n", name);
+    size_t record_len = build(text_len);
+    if (record_len == 0)
+        return 1;
+    read_back(record_len);
+    check(record_len, text_len);
+    ask_least_bands(text_len);
+    return 0;
+}
+
+static int fire_embedded(const char *name, const char *profile)
+{
+    size_t length = strlen(profile);
+    memcpy(text, profile, length);
+    return fire(name, length);
+}
+
+static int fire_file(const char *name)
+{
+    FILE *file = fopen(name, "rb");
+    if (file == NULL) {
+        perror(name);
+        return 1;
+    }
+    size_t length = fread(text, 1, sizeof text, file);
+    int broken = ferror(file);
+    fclose(file);
+    if (broken) {
+        fprintf(stderr, "%s: cannot be read\n", name);
+        return 1;
+    }
+    return fire(name, length);
+}
+
+int main(int argc, char **argv)
+{
+    if (argc > 1)
+        return fire_file(argv[1]);
+    fire_embedded("faulty", FAULTY);
+    return fire_embedded("embedded", EMBEDDED);
+}

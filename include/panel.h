@@ -1,0 +1,146 @@
+/* The burner panel's four calls for C firmware: profile text to record, one slot of a record,
+ * record against text, least band of a text.
+ *
+ * A value (setpoint, rest value, band, error) is a whole number of hundredths: 14,50 is 1450.
+ *
+ * Every call returns four fields of 16 bits in one number; the functions below take them out.
+ * The lowest field is the refusal's number, 0 for success. A refusal leaves the other fields 0
+ * and lent memory as it was.
+ *
+ * What the caller owes:
+ * - every pointer is valid for the length beside it, and not null, also where that length is 0;
+ * - no length is above PTRDIFF_MAX;
+ * - the bytes that panel_text_to_record may write do not overlap the text;
+ * - 40 KiB of stack below the call; bench/run measures what each call takes.
+ *
+ * The calls take no heap and keep nothing from one call to the next.
+ */
+#ifndef PANEL_H
+#define PANEL_H
+
+#include <stddef.h>
+#include <stdint.h>
+
+#ifdef __cplusplus
+extern "C" {
+#endif
+
+/* Setpoints, rest value and term values lie within PANEL_MOST_VALUE either way of 0. */
+#define PANEL_MOST_VALUE 20000
+#define PANEL_MOST_BAND 40000
+#define PANEL_MOST_SLOTS 512
+#define PANEL_MOST_BUDGET 1023
+
+/* A longer text is refused: 514 lines of at most seven characters and their line end. */
+#define PANEL_MOST_TEXT_BYTES 4112
+
+/* The bytes of a record of that many terms. */
+#define PANEL_RECORD_BYTES(terms) ((55u + 26u * (size_t)(terms) + 7u) / 8u)
+
+/* A record made elsewhere has at most 1,023 terms: 3,332 bytes. */
+#define PANEL_MOST_RECORD_BYTES PANEL_RECORD_BYTES(1023)
+
+/* The panel's own records have at most 512 terms: 1,671 bytes are never too few. */
+#define PANEL_MOST_BUILT_BYTES PANEL_RECORD_BYTES(PANEL_MOST_SLOTS)
+
+enum panel_refusal {
+    PANEL_GRANTED = 0,
+    PANEL_NOT_A_NUMBER = 1,    /* a line is not a number, or the last line does not end in byte 10 */
+    PANEL_VALUE_BEYOND = 2,    /* rest value or setpoint beyond 200,00 either way */
+    PANEL_BAND_BEYOND = 3,     /* band below 0 or above 400,00 */
+    PANEL_SLOTS_BEYOND = 4,    /* no setpoint, or more than 512 */
+    PANEL_BUDGET_BEYOND = 5,   /* budget above 1,023 terms */
+    PANEL_OUTPUT_SHORT = 6,    /* the record does not fit into the bytes lent for it */
+    PANEL_NOT_A_RECORD = 7,    /* under 7 bytes, version not 1, wrong byte count, or fill not zero */
+    PANEL_TERMS_WRONG = 8,     /* too many terms, a node not in the tree, nodes not ascending, or a term value beyond 200,00 */
+    PANEL_LENGTH_DIFFERS = 9,  /* the record has another number of slots than the text */
+    PANEL_NO_SUCH_SLOT = 10    /* the slot asked for is not below the record's number of slots */
+};
+
+/* Builds the synopsis of a profile text with the fewest terms that keeps the text's band and, among
+ * those, the least greatest error, and writes its record.
+ * Bytes of `record` past the record hold what they held.
+ * Gives panel_bytes_written, panel_terms, panel_greatest_error.
+ * Refuses with 1, 2, 3 and 4, by lines from the first; then 6. */
+uint64_t panel_text_to_record(const uint8_t *text, size_t text_len, uint8_t *record, size_t record_len);
+
+/* Restores the setpoint of one slot; slots are numbered from 0. `record_len` is exactly the record's.
+ * Gives panel_setpoint.
+ * Refuses with 7, 2, 3, 8, 10, in this order. */
+uint64_t panel_record_slot(const uint8_t *record, size_t record_len, uint64_t slot);
+
+/* Checks whether a record keeps its own band for a text's setpoints, with its own rest value.
+ * Gives panel_kept with panel_check_error where it does, and panel_lowest_slot where it does not.
+ * Refuses the text with 1, 2, 3 and 4, by lines from the first; then with 7, 2, 3, 8, 9, in this order. */
+uint64_t panel_record_against_text(const uint8_t *record, size_t record_len, const uint8_t *text, size_t text_len);
+
+/* Finds the least band that some synopsis of at most `budget` terms keeps. The text's own band has no part in it.
+ * Gives panel_least_band.
+ * Refuses with 1, 2, 3 and 4, by lines from the first; then 5. */
+uint64_t panel_least_band_of_text(const uint8_t *text, size_t text_len, uint64_t budget);
+
+/* Field 0 of a result is the lowest. */
+static inline uint16_t panel_field(uint64_t result, unsigned field)
+{
+    return (uint16_t)(result >> (16u * field));
+}
+
+/* Of every call: the refusal's number, PANEL_GRANTED for success. */
+static inline enum panel_refusal panel_refusal(uint64_t result)
+{
+    return (enum panel_refusal)panel_field(result, 0);
+}
+
+/* Of panel_text_to_record. */
+static inline uint16_t panel_bytes_written(uint64_t result)
+{
+    return panel_field(result, 1);
+}
+
+static inline uint16_t panel_terms(uint64_t result)
+{
+    return panel_field(result, 2);
+}
+
+static inline uint16_t panel_greatest_error(uint64_t result)
+{
+    return panel_field(result, 3);
+}
+
+/* Of panel_record_slot: the field holds the setpoint in two's complement. */
+static inline int16_t panel_setpoint(uint64_t result)
+{
+    int32_t field = panel_field(result, 1);
+    return (int16_t)(field < 32768 ? field : field - 65536);
+}
+
+/* Of panel_record_against_text: 1 for kept, 0 for not kept. */
+static inline int panel_kept(uint64_t result)
+{
+    return panel_field(result, 1) == 1;
+}
+
+/* The greatest error where the band is kept, else 0. */
+static inline uint16_t panel_check_error(uint64_t result)
+{
+    return panel_field(result, 2);
+}
+
+/* The lowest slot whose error exceeds the band where it is not kept, else 0.
+ * It may be a filler slot, past the profile's last: filler carries the last setpoint up to the next power of two. */
+static inline uint16_t panel_lowest_slot(uint64_t result)
+{
+    return panel_field(result, 3);
+}
+
+/* Of panel_least_band_of_text. */
+static inline uint16_t panel_least_band(uint64_t result)
+{
+    return panel_field(result, 1);
+}
+
+#ifdef __cplusplus
+}
+#endif
+
+#endif

@@ -1,0 +1,93 @@
+//! Which outcomes each of the four calls has shown, counted by name; a run that misses one that document 01 allows has failed.
+
+use crate::document::calls::{Answer, Call};
+use crate::document::refusal::{ALL, Calls, Refusal};
+use std::collections::HashMap;
+
+#[derive(Clone, Copy, PartialEq, Eq, Hash)]
+enum Outcome {
+    Answered,
+    Kept,
+    NotKept,
+    NotKeptInFiller,
+    Refused(Refusal),
+}
+
+impl Outcome {
+    fn of(call: Call, answer: Answer) -> Outcome {
+        match (call, answer) {
+            (_, Err(refusal)) => Outcome::Refused(refusal),
+            (Call::RecordAgainstText { .. }, Ok([1, ..])) => Outcome::Kept,
+            (Call::RecordAgainstText { text, .. }, Ok([_, _, slot])) if usize::from(slot) >= slots_of(text) => {
+                Outcome::NotKeptInFiller
+            }
+            (Call::RecordAgainstText { .. }, Ok(_)) => Outcome::NotKept,
+            (_, Ok(_)) => Outcome::Answered,
+        }
+    }
+
+    fn row(self) -> (u16, Calls, &'static str) {
+        match self {
+            Outcome::Answered => (0, [true, true, false, true], "answered"),
+            Outcome::Kept => (0, [false, false, true, false], "kept"),
+            Outcome::NotKept => (0, [false, false, true, false], "not kept, first in a slot of the profile"),
+            Outcome::NotKeptInFiller => (0, [false, false, true, false], "not kept, first in a filler slot"),
+            Outcome::Refused(refusal) => refusal.row(),
+        }
+    }
+
+    fn all() -> impl Iterator<Item = Outcome> {
+        let answers = [Outcome::Answered, Outcome::Kept, Outcome::NotKept, Outcome::NotKeptInFiller];
+        answers.into_iter().chain(ALL.into_iter().map(Outcome::Refused))
+    }
+}
+
+/// The slots of a text that is accepted.
+fn slots_of(text: &[u8]) -> usize {
+    text.iter().filter(|&&byte| byte == 10).count() - 2
+}
+
+fn column(call: Call) -> usize {
+    match call {
+        Call::TextToRecord { .. } => 0,
+        Call::RecordSlot { .. } => 1,
+        Call::RecordAgainstText { .. } => 2,
+        Call::LeastBandOfText { .. } => 3,
+    }
+}
+
+#[derive(Default)]
+pub struct Coverage {
+    met: HashMap<Outcome, [u64; 4]>,
+}
+
+impl Coverage {
+    pub fn note(&mut self, call: Call, answer: Answer) {
+        self.met.entry(Outcome::of(call, answer)).or_default()[column(call)] += 1;
+    }
+
+    fn counts(&self, outcome: Outcome) -> [u64; 4] {
+        self.met.get(&outcome).copied().unwrap_or_default()
+    }
+
+    /// The table of counts; a dash where document 01 gives the call no such outcome.
+    pub fn print(&self) {
+        println!("{:46}{:>9}{:>9}{:>9}{:>9}", "", "to", "one", "against", "least");
+        println!("{:46}{:>9}{:>9}{:>9}{:>9}", "outcome", "record", "slot", "text", "band");
+        for outcome in Outcome::all() {
+            let (number, calls, words) = outcome.row();
+            let cells = calls.iter().zip(self.counts(outcome));
+            let cells =
+                cells.map(|(&allowed, count)| if allowed { format!("{count:>9}") } else { format!("{:>9}", "-") });
+            println!("{number:>2}  {words:42}{}", cells.collect::<String>());
+        }
+    }
+
+    /// Whether every call has shown every outcome that it can have.
+    pub fn complete(&self) -> bool {
+        let all_met = |outcome: Outcome| {
+            outcome.row().1.iter().zip(self.counts(outcome)).all(|(&allowed, count)| !allowed || count > 0)
+        };
+        Outcome::all().all(all_met)
+    }
+}

@@ -1,0 +1,121 @@
+//! The four calls of the panel's firmware, and what document 01 has each of them answer.
+
+use super::BUDGET_LIMIT;
+use super::optimum::Optimum;
+use super::record::{byte_count, read_record};
+use super::refusal::Refusal;
+use super::synopsis::{Verdict, check, padded_length, restored};
+use super::text::{Profile, read_text};
+use std::fmt;
+
+/// A call with all that is handed to it; for text to record the number of bytes lent for the record.
+#[derive(Clone, Copy)]
+pub enum Call<'a> {
+    TextToRecord { text: &'a [u8], destination: usize },
+    RecordSlot { record: &'a [u8], slot: u64 },
+    RecordAgainstText { record: &'a [u8], text: &'a [u8] },
+    LeastBandOfText { text: &'a [u8], budget: u64 },
+}
+
+/// The three results beside the refusal's number, or the refusal.
+pub type Answer = Result<[u16; 3], Refusal>;
+
+/// The number and the results in one, the number lowest.
+pub fn packed(answer: Answer) -> u64 {
+    let number = answer.err().map_or(0, Refusal::number);
+    let results = answer.unwrap_or([0; 3]);
+    [number, results[0], results[1], results[2]].into_iter().rev().fold(0, |word, part| word << 16 | u64::from(part))
+}
+
+/// Document 01's answers; what was worked out for the last profile is kept for the next call.
+#[derive(Default)]
+pub struct Document {
+    last: Option<(Vec<i32>, i32, Optimum)>,
+}
+
+impl Document {
+    pub fn answer(&mut self, call: Call) -> Answer {
+        match call {
+            Call::TextToRecord { text, destination } => self.text_to_record(text, destination),
+            Call::RecordSlot { record, slot } => record_slot(record, slot),
+            Call::RecordAgainstText { record, text } => record_against_text(record, text),
+            Call::LeastBandOfText { text, budget } => self.least_band_of_text(text, budget),
+        }
+    }
+
+    /// Bytes written, terms, greatest error.
+    fn text_to_record(&mut self, text: &[u8], destination: usize) -> Answer {
+        let profile = read_text(text)?;
+        let optimum = self.optimum(&profile);
+        let terms = optimum.fewest(profile.band);
+        let greatest_error = optimum.least_band(terms);
+        if destination < byte_count(terms) {
+            return Err(Refusal::DestinationShort);
+        }
+        Ok([byte_count(terms) as u16, terms as u16, greatest_error as u16])
+    }
+
+    /// The band.
+    fn least_band_of_text(&mut self, text: &[u8], budget: u64) -> Answer {
+        let profile = read_text(text)?;
+        if budget > BUDGET_LIMIT {
+            return Err(Refusal::BudgetAbove);
+        }
+        Ok([self.optimum(&profile).least_band(budget as usize) as u16, 0, 0])
+    }
+
+    fn optimum(&mut self, profile: &Profile) -> &mut Optimum {
+        let of_profile =
+            |(setpoints, rest, _): &(Vec<i32>, i32, Optimum)| *setpoints == profile.setpoints && *rest == profile.rest;
+        let last = self.last.take().filter(of_profile);
+        let work_out = || (profile.setpoints.clone(), profile.rest, Optimum::new(&profile.setpoints, profile.rest));
+        &mut self.last.insert(last.unwrap_or_else(work_out)).2
+    }
+}
+
+/// The setpoint, in two's complement.
+fn record_slot(record: &[u8], slot: u64) -> Answer {
+    let record = read_record(record)?;
+    if slot >= record.slots as u64 {
+        return Err(Refusal::SlotBeyond);
+    }
+    let node = padded_length(record.slots) + slot as usize;
+    Ok([restored(&record.terms, record.rest, node) as u16, 0, 0])
+}
+
+/// Kept, the greatest error, the lowest slot that exceeds the band.
+fn record_against_text(record: &[u8], text: &[u8]) -> Answer {
+    let profile = read_text(text)?;
+    let record = read_record(record)?;
+    if record.slots != profile.setpoints.len() {
+        return Err(Refusal::LengthNotTheProfiles);
+    }
+    Ok(match check(&record.terms, record.rest, record.band, &profile.setpoints) {
+        Verdict::Kept(greatest_error) => [1, greatest_error as u16, 0],
+        Verdict::NotKept(slot) => [0, 0, slot as u16],
+    })
+}
+
+/// The call in full, so that it can be made again.
+impl fmt::Display for Call<'_> {
+    fn fmt(&self, out: &mut fmt::Formatter) -> fmt::Result {
+        match self {
+            Call::TextToRecord { text, destination } => {
+                write!(out, "text to record, destination of {destination} bytes, text \"{}\"", text.escape_ascii())
+            }
+            Call::RecordSlot { record, slot } => {
+                write!(out, "one slot, slot {slot}, record {}", hexadecimal(record))
+            }
+            Call::RecordAgainstText { record, text } => {
+                write!(out, "record against text, record {}, text \"{}\"", hexadecimal(record), text.escape_ascii())
+            }
+            Call::LeastBandOfText { text, budget } => {
+                write!(out, "least band of a text, budget {budget}, text \"{}\"", text.escape_ascii())
+            }
+        }
+    }
+}
+
+fn hexadecimal(bytes: &[u8]) -> String {
+    bytes.iter().map(|byte| format!("{byte:02X}")).collect::<Vec<_>>().join(" ")
+}

@@ -1,0 +1,59 @@
+//! Document 01, "The setpoint in a slot": filler, nodes, terms, the restored setpoint and its error; and the check's verdict.
+
+/// A node number and a value.
+#[derive(Clone, Copy, Debug, PartialEq)]
+pub struct Term {
+    pub node: usize,
+    pub value: i32,
+}
+
+/// m: the smallest power of two that is n or more.
+pub fn padded_length(slots: usize) -> usize {
+    let mut length = 1;
+    while length < slots {
+        length *= 2;
+    }
+    length
+}
+
+/// The setpoints of all m slots: filler carries the last one.
+pub fn padded(setpoints: &[i32]) -> Vec<i32> {
+    let mut all = setpoints.to_vec();
+    all.resize(padded_length(setpoints.len()), setpoints[setpoints.len() - 1]);
+    all
+}
+
+/// The value of the lowest term on the path from a node up to the root; with none, the rest value. Terms ascend by node.
+pub fn restored(terms: &[Term], rest: i32, mut node: usize) -> i32 {
+    while node >= 1 {
+        if let Ok(place) = terms.binary_search_by_key(&node, |term| term.node) {
+            return terms[place].value;
+        }
+        node /= 2;
+    }
+    rest
+}
+
+/// The errors of all m slots.
+pub fn errors(terms: &[Term], rest: i32, setpoints: &[i32]) -> Vec<i32> {
+    let all = padded(setpoints);
+    let error = |(slot, setpoint): (usize, &i32)| (setpoint - restored(terms, rest, all.len() + slot)).abs();
+    all.iter().enumerate().map(error).collect()
+}
+
+pub fn greatest_error(terms: &[Term], rest: i32, setpoints: &[i32]) -> i32 {
+    errors(terms, rest, setpoints).into_iter().fold(0, i32::max)
+}
+
+/// What the check says of a synopsis: the greatest error, or the lowest slot whose error exceeds the band.
+pub enum Verdict {
+    Kept(i32),
+    NotKept(usize),
+}
+
+pub fn check(terms: &[Term], rest: i32, band: i32, setpoints: &[i32]) -> Verdict {
+    match errors(terms, rest, setpoints).iter().position(|&error| error > band) {
+        Some(slot) => Verdict::NotKept(slot),
+        None => Verdict::Kept(greatest_error(terms, rest, setpoints)),
+    }
+}

@@ -1,0 +1,170 @@
+//! Document 01's instances, each by name, with what the paper itself says they give.
+
+use crate::comparison::Comparison;
+use crate::document::record::{Fields, Record, byte_count};
+use crate::document::synopsis::Term;
+use crate::document::text::{Profile, write_text};
+
+/// "One firing in full", and its record.
+const FIRING: &[u8] = b"14,00\n0,25\n14,10\n13,90\n20,00\n19,50\n";
+const FIRING_RECORD: [u8; 11] = [0x10, 0x18, 0x00, 0xC8, 0x2B, 0xC0, 0x02, 0x01, 0x83, 0xDB, 0x80];
+
+pub fn run(comparison: &mut Comparison) {
+    let mut instances = Instances(comparison);
+    one_firing(&mut instances);
+    numbers(&mut instances);
+    lengths_of_texts(&mut instances);
+    small_profiles(&mut instances);
+    wrong_turnings(&mut instances);
+    lengths_of_records(&mut instances);
+    readings(&mut instances);
+}
+
+struct Instances<'a>(&'a mut Comparison);
+
+/// A refusal: its number, and 0 for all other results.
+fn refused(number: u16) -> [u16; 4] {
+    [number, 0, 0, 0]
+}
+
+impl Instances<'_> {
+    fn builds(&mut self, name: &str, text: &[u8], gives: [u16; 4]) -> Option<Vec<u8>> {
+        let (answer, record) = self.0.text_to_record(text, byte_count(1_023));
+        self.0.same("an instance of document 01", &name, gives, answer);
+        record
+    }
+
+    fn restores(&mut self, name: &str, record: &[u8], slot: u64, gives: [u16; 4]) {
+        let answer = self.0.record_slot(record, slot);
+        self.0.same("an instance of document 01", &name, gives, answer);
+    }
+
+    fn checks(&mut self, name: &str, record: &[u8], text: &[u8], gives: [u16; 4]) {
+        let answer = self.0.record_against_text(record, text);
+        self.0.same("an instance of document 01", &name, gives, answer);
+    }
+
+    fn least_band(&mut self, name: &str, text: &[u8], budget: u64, gives: [u16; 4]) {
+        let answer = self.0.least_band_of_text(text, budget);
+        self.0.same("an instance of document 01", &name, gives, answer);
+    }
+
+    /// A field as a setpoint under band 0: the restored setpoint is the number read, or building refuses.
+    fn reads(&mut self, field: &str, gives: Result<i16, u16>) {
+        let name = format!("`{field}` as a setpoint");
+        let text = format!("-199,99\n0\n{field}\n");
+        match gives {
+            Ok(value) => {
+                let record = self.builds(&name, text.as_bytes(), [0, 11, 1, 0]).unwrap_or_default();
+                self.restores(&name, &record, 0, [0, value as u16, 0, 0]);
+            }
+            Err(number) => self.refuses(&name, text.as_bytes(), number),
+        }
+    }
+
+    /// A text that every call on text turns away.
+    fn refuses(&mut self, name: &str, text: &[u8], number: u16) {
+        self.builds(name, text, refused(number));
+        self.least_band(name, text, 0, refused(number));
+        self.checks(name, &FIRING_RECORD, text, refused(number));
+    }
+}
+
+fn profile_text(setpoints: &[i32], rest: i32, band: i32) -> Vec<u8> {
+    write_text(&Profile { rest, band, setpoints: setpoints.to_vec() })
+}
+
+fn one_firing(instances: &mut Instances) {
+    let record = instances.builds("one firing in full", FIRING, [0, 11, 1, 25]);
+    instances.0.same("the firing's record", &"one firing in full", Some(FIRING_RECORD.to_vec()), record);
+    for (slot, setpoint) in [1400, 1400, 1975, 1975].into_iter().enumerate() {
+        instances.restores("a slot of the firing", &FIRING_RECORD, slot as u64, [0, setpoint, 0, 0]);
+    }
+    instances.restores("slot 4 of the firing", &FIRING_RECORD, 4, refused(10));
+    instances.checks("the firing's record against its text", &FIRING_RECORD, FIRING, [0, 1, 25, 0]);
+    instances.restores("the record above without its last byte, one slot", &FIRING_RECORD[..10], 0, refused(7));
+    instances.checks(
+        "the record above without its last byte, against its text",
+        &FIRING_RECORD[..10],
+        FIRING,
+        refused(7),
+    );
+}
+
+fn numbers(instances: &mut Instances) {
+    for (field, value) in [("14,50", 1450), ("14,5", 1450), ("14", 1400), ("-0,05", -5), ("200,00", 20_000)] {
+        instances.reads(field, Ok(value));
+    }
+    for field in ["14,", "", "1.450", "+3", "1234"] {
+        instances.reads(field, Err(1));
+        instances.refuses("no number as the rest value", format!("{field}\n0\n14\n").as_bytes(), 1);
+        instances.refuses("no number as the band", format!("14\n{field}\n14\n").as_bytes(), 1);
+    }
+    instances.reads("200,01", Err(2));
+}
+
+fn lengths_of_texts(instances: &mut Instances) {
+    instances.refuses("a text of no bytes", b"", 4);
+    instances.refuses("a text of two good lines", b"14,00\n0,25\n", 4);
+    instances.builds("512 slots", &profile_text(&[5; 512], 0, 5), [0, 7, 0, 5]);
+    instances.refuses("513 slots", &profile_text(&[5; 513], 0, 5), 4);
+}
+
+fn small_profiles(instances: &mut Instances) {
+    instances.builds("one slot 5, rest 0, band 5", &profile_text(&[5], 0, 5), [0, 7, 0, 5]);
+    instances.builds("one slot 5, rest 0, band 4", &profile_text(&[5], 0, 4), [0, 11, 1, 0]);
+    let four = |band| profile_text(&[0, 100, 0, 100], 0, band);
+    instances.builds("0, 100, 0, 100, rest 0, band 50", &four(50), [0, 11, 1, 50]);
+    instances.builds("0, 100, 0, 100, rest 0, band 49", &four(49), [0, 14, 2, 0]);
+    for (budget, band) in [(0, 100), (1, 50), (2, 0)] {
+        instances.least_band("0, 100, 0, 100, rest 0, a budget", &four(0), budget, [0, band, 0, 0]);
+    }
+}
+
+fn wrong_turnings(instances: &mut Instances) {
+    let four = |rest| profile_text(&[0, 100, 0, 100], rest, 0);
+    instances.builds("both 0 and 100 fit below the root, rest 100", &four(100), [0, 14, 2, 0]);
+    instances.builds("nothing between 0 and 100 fits, rest 50", &four(50), [0, 17, 3, 0]);
+    instances.builds("0 and 1 under one term", &profile_text(&[0, 1], 500, 1), [0, 11, 1, 1]);
+    instances.builds("no root term where the rest value serves", &profile_text(&[7; 8], 7, 0), [0, 7, 0, 0]);
+    let terms = vec![Term { node: 1, value: 100 }, Term { node: 2, value: 0 }];
+    let record = Record { slots: 2, band: 0, rest: 50, terms }.bytes();
+    instances.restores("a term of value 0 under another, its slot", &record, 0, [0, 0, 0, 0]);
+    instances.restores("a term of value 0 under another, the other slot", &record, 1, [0, 100, 0, 0]);
+}
+
+/// 7 bytes for no term, 11 for one, 3,332 for 1,023.
+fn lengths_of_records(instances: &mut Instances) {
+    for (last_node, length) in [(0, 7), (1, 11), (1_023, 3_332)] {
+        let terms = (1..=last_node).map(|node| Term { node, value: 5 }).collect();
+        let mut bytes = Record { slots: 512, band: 0, rest: 5, terms }.bytes();
+        instances.0.same("the length of a record", &last_node, length, bytes.len());
+        instances.restores("a record of this length", &bytes, 511, [0, 5, 0, 0]);
+        instances.restores("a record one byte short", &bytes[..length - 1], 511, refused(7));
+        bytes.push(0);
+        instances.restores("a record one byte long", &bytes, 511, refused(7));
+    }
+}
+
+/// Places that are open or easily misread, as docs/DECISIONS.md reads them.
+fn readings(instances: &mut Instances) {
+    let longest = profile_text(&[5; 512], 0, 5);
+    for tail in ["5\n", "5", "x\n", "x", "\n", "999\n"] {
+        let text = [longest.as_slice(), tail.as_bytes()].concat();
+        instances.refuses("a byte after the 514th line", &text, 4);
+    }
+    instances.refuses("a last line that is not ended", b"0\n0\n0\n14", 1);
+    instances.refuses("a third line that is not ended", b"0\n0\n14", 1);
+    instances.refuses("a last line out of range that is not ended", b"0\n0\n999", 1);
+    instances.refuses("a rest value out of range, and nothing more", b"999,01\n", 2);
+    instances.refuses("a band out of range, and nothing more", b"0\n400,01\n", 3);
+    instances.builds("`-0` as a band", b"0\n-0\n0\n", [0, 7, 0, 0]);
+    instances.builds("`-0,00` as a band", b"0\n-0,00\n0\n", [0, 7, 0, 0]);
+    let two_terms = Fields { version: 1, length: 0, band: 0, rest: 0, count: 2, terms: vec![(1, 0), (1, 0)], fill: 0 };
+    let record = two_terms.bytes();
+    instances.restores("a count above 2m-1 that fits the bytes", &record, 0, refused(8));
+    instances.restores("a count above 2m-1 that does not", &record[..record.len() - 1], 0, refused(7));
+    let filler_term = vec![Term { node: 7, value: 100 }];
+    let record = Record { slots: 3, band: 0, rest: 0, terms: filler_term }.bytes();
+    instances.checks("a filler slot outside the band", &record, b"0\n0\n0\n0\n0\n", [0, 0, 0, 3]);
+}

@@ -1,0 +1,23 @@
+//! The groups of comparisons, in the order they are run.
+
+mod budgets;
+mod firings;
+mod instances;
+mod numbers;
+mod records;
+mod self_check;
+mod texts;
+
+use crate::comparison::Comparison;
+
+pub type Group = fn(&mut Comparison);
+
+pub const ALL: [(&str, Group); 7] = [
+    ("the second program against itself", self_check::run),
+    ("document 01's instances", instances::run),
+    ("numbers as typed", numbers::run),
+    ("texts, good and damaged", texts::run),
+    ("firings: built, restored, checked", firings::run),
+    ("budgets", budgets::run),
+    ("records, good and damaged", records::run),
+];

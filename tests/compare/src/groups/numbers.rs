@@ -1,0 +1,81 @@
+//! Numbers as typed, seen through text to record: a rest value and a band in the record's header, and a setpoint under band 0
+//! as the restored one.
+
+use crate::comparison::Comparison;
+use crate::document::number::write_number;
+use crate::document::record::byte_count;
+use crate::document::text::{Profile, write_text};
+use crate::document::{BAND_LIMIT, SLOT_LIMIT, VALUE_LIMIT};
+use crate::inputs::random::Random;
+use crate::inputs::typed::{NO_NUMBERS, OUT_OF_RANGE, lines, number, text};
+
+pub fn run(comparison: &mut Comparison) {
+    let mut random = Random::new(4);
+    for field in NO_NUMBERS.iter().chain(&OUT_OF_RANGE) {
+        in_all_places(comparison, field);
+    }
+    for length in 0..=5 {
+        every_field(comparison, b"-,.019 ", length);
+    }
+    for typed in [b"14,50".as_slice(), b"-199.99"] {
+        one_byte_changed(comparison, typed);
+    }
+    for length in (3..300).chain(65_536..65_540) {
+        too_many_digits(comparison, length);
+    }
+    every_value(comparison, &mut random);
+}
+
+/// A field as rest value, as band and as setpoint.
+fn in_all_places(comparison: &mut Comparison, field: &[u8]) {
+    for place in 0..3 {
+        let mut lines: [&[u8]; 3] = [b"1", b"0", b"2"];
+        lines[place] = field;
+        comparison.text_to_record(&lines.map(|line| [line, b"\n"].concat()).concat(), byte_count(1));
+    }
+}
+
+/// Every field of so many of the bytes.
+fn every_field(comparison: &mut Comparison, bytes: &[u8], length: u32) {
+    for number in 0..bytes.len().pow(length) {
+        let byte = |place: u32| bytes[number / bytes.len().pow(place) % bytes.len()];
+        in_all_places(comparison, &(0..length).map(byte).collect::<Vec<u8>>());
+    }
+}
+
+/// Every byte value in every place, in place of a byte and between two.
+fn one_byte_changed(comparison: &mut Comparison, typed: &[u8]) {
+    for byte in 0..=255 {
+        for place in 0..=typed.len() {
+            let (before, after) = typed.split_at(place);
+            in_all_places(comparison, &[before, &[byte], after].concat());
+            in_all_places(comparison, &[before, &[byte], after.get(1..).unwrap_or_default()].concat());
+        }
+    }
+}
+
+/// So many digits before the mark, and after it.
+fn too_many_digits(comparison: &mut Comparison, length: usize) {
+    let digits = vec![b'0'; length];
+    in_all_places(comparison, &digits);
+    in_all_places(comparison, &[b"1,", digits.as_slice()].concat());
+}
+
+/// Every value in range and some beyond, as written out and in another form.
+fn every_value(comparison: &mut Comparison, random: &mut Random) {
+    for value in -VALUE_LIMIT - 50..=BAND_LIMIT + 50 {
+        in_all_places(comparison, write_number(value).as_bytes());
+    }
+    for _ in 0..5_000 {
+        let value = random.between(-99_999, 99_999);
+        in_all_places(comparison, &number(random, value));
+    }
+    let values: Vec<i32> = (-VALUE_LIMIT..=VALUE_LIMIT).collect();
+    for setpoints in values.chunks(SLOT_LIMIT) {
+        let profile =
+            Profile { rest: random.between(-VALUE_LIMIT, VALUE_LIMIT), band: 0, setpoints: setpoints.to_vec() };
+        comparison.text_to_record(&write_text(&profile), byte_count(SLOT_LIMIT));
+        let typed = text(&lines(random, &profile));
+        comparison.text_to_record(&typed, byte_count(SLOT_LIMIT));
+    }
+}
