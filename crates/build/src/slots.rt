@@ -1,8 +1,9 @@
 // The slots of a tree over a profile: how many there are, and the setpoint of each.
 use histogram::level::level;
 use histogram::terms::padded_length;
+use windows::smaller;
 ghost use mathlib.Core.Path.{_≡_};
-ghost use Prim.Native.Nat.{_≤_, min};
+ghost use Prim.Native.Nat.{_≤_};
 ghost use lib.ListN.{length};
 ghost use Rattle.histogram.specs.Tree.{height, padded};
 ghost use Rattle.build.specs.Inner.{Filled};
@@ -37,10 +38,4 @@ pub fn fill(setpoints: &[i16], room: &mut [i16])
         room[slot] = setpoint;
         slot += 1;
     }
-}
-
-fn smaller(one: usize, other: usize) -> usize
-    ensures { λ r. ⌜ r ≡ min one other ⌝ }
-{
-    if one < other { one } else { other }
 }

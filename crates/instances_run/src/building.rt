@@ -10,10 +10,12 @@ use build::least_band;
 pub fn run() {
     document();
     budgets();
+    budgets_of_the_firing();
     sets_of_values();
     terms_of_zero();
     least_errors();
     bands_reached();
+    filler_and_limits();
 }
 
 // Document 01's instances.
@@ -33,6 +35,9 @@ fn budgets() {
     find_band(&alternating, 0, 0);
     find_band(&alternating, 0, 1);
     find_band(&alternating, 0, 2);
+}
+
+fn budgets_of_the_firing() {
     let firing = [1410i16, 1390, 2000, 1950];
     find_band(&firing, 1400, 0);
     find_band(&firing, 1400, 1);
@@ -67,12 +72,15 @@ fn least_errors() {
     find_band(&neighbours, 1000, 1);
 }
 
-// An error equal to the band, no term where the rest value serves, filler, and the limits.
+// An error equal to the band, and no term where the rest value serves.
 fn bands_reached() {
     let level = [1400i16, 1400, 1400];
     build(&level, 1400, 0);
     build(&level, 1375, 25);
     build(&level, 1375, 24);
+}
+
+fn filler_and_limits() {
     let late = [0i16, 0, 100];
     build(&late, 0, 0);
     let limits = [20000i16, -20000];

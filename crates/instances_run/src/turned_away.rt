@@ -16,9 +16,13 @@ const SCRATCH: usize = 12288;
 
 pub fn run() {
     lengths();
-    numbers();
-    rooms();
-    least_bands();
+    rest_values();
+    setpoints_beyond();
+    bands();
+    too_few_places();
+    just_enough();
+    least_band_profiles();
+    least_band_budgets();
 }
 
 // Slots: none, and one too many, at first with all else right.
@@ -30,43 +34,60 @@ fn lengths() {
     build(b"no slots", &setpoints[..0], 20001, -1, 0, 0);
 }
 
-// Rest value, setpoints and band beyond their limits, and at them.
-fn numbers() {
+// Rest values beyond their limits.
+fn rest_values() {
     let above = [0i16, 20001];
-    let below = [-20001i16, 0];
-    let least = [-32768i16];
     let limits = [-20000i16, 20000];
     build(b"a rest value above", &above, 20001, -1, 0, 0);
     build(b"a rest value below", &limits, -20001, -1, 0, 0);
     build(b"the least rest value", &limits, -2147483648, -1, 0, 0);
+}
+
+fn setpoints_beyond() {
+    let above = [0i16, 20001];
+    let below = [-20001i16, 0];
+    let least = [-32768i16];
     build(b"a setpoint above", &above, 20000, -1, 0, 0);
     build(b"a setpoint below", &below, -20000, 40001, 0, 0);
     build(b"the least setpoint", &least, 0, 40001, 0, 0);
+}
+
+// Bands beyond their limits, and all numbers at theirs.
+fn bands() {
+    let limits = [-20000i16, 20000];
     build(b"a band below", &limits, 20000, -1, 0, 0);
     build(b"a band above", &limits, -20000, 40001, 0, 0);
     build(b"all at their limits", &limits, 20000, 40000, 2, SCRATCH);
 }
 
 // Room for as many terms as slots with their filler, whatever the number of terms, and scratch.
-fn rooms() {
+fn too_few_places() {
     let three = [1i16, 2, 3];
     build(b"a place too few", &three, 0, 0, 3, SCRATCH);
     build(b"it for no term", &three, 2, 1, 3, SCRATCH);
     build(b"a scratch number too few", &three, 0, 0, 4, SCRATCH - 1);
     build(b"both too few", &three, 0, 0, 3, SCRATCH - 1);
+}
+
+fn just_enough() {
+    let three = [1i16, 2, 3];
     build(b"both just enough", &three, 0, 0, 4, SCRATCH);
     let four = [1i16, 2, 3, 4];
     build(b"a term in every place", &four, 0, 0, 4, SCRATCH);
     build(b"both to spare", &four[..2], 0, 0, 1024, SCRATCH + 1);
 }
 
-fn least_bands() {
+fn least_band_profiles() {
     let setpoints = [20001i16; 513];
     let three = [1i16, 2, 3];
     find_band(b"513 slots", &setpoints, 20001, 1024, 0);
     find_band(b"no slots", &setpoints[..0], 20001, 1024, 0);
     find_band(b"a rest value above", &three, 20001, 1024, 0);
     find_band(b"a setpoint above", &setpoints[..1], 20000, 1024, 0);
+}
+
+fn least_band_budgets() {
+    let three = [1i16, 2, 3];
     find_band(b"a budget above", &three, 0, 1024, 0);
     find_band(b"the greatest budget", &three, 0, 4294967295, SCRATCH);
     find_band(b"a scratch number too few", &three, 0, 1023, SCRATCH - 1);

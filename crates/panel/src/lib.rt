@@ -17,12 +17,12 @@ pub extern "C" fn panel_text_to_record(text: &[u8], destination: &mut [u8]) -> u
     ensures { λ r. ⌜ TextToRecord (now (text .entry)) (now (destination .entry)) (now (destination .exit)) r ⌝ }
 {
     let mut setpoints = [0i16; 512];
-    let read = read_text(text, &mut setpoints);
-    if 0 < read.refusal {
-        return pack(read.refusal as u64, 0, 0, 0);
+    let numbers = read_text(text, &mut setpoints);
+    if 0 < numbers.refusal {
+        return pack(numbers.refusal as u64, 0, 0, 0);
     }
-    let slots = read.slots;
-    build_record(&setpoints[..slots], read.rest, read.band, destination)
+    let slots = numbers.slots;
+    build_record(&setpoints[..slots], numbers.rest, numbers.band, destination)
 }
 
 // The record of a profile's best synopsis.

@@ -1,14 +1,9 @@
--- How many places a stretch has: by the stretches of the children, by the table of the code, and at most 12,286 for 512 slots.
-use mathlib.Core.Path.{_≡_, refl, sym, ap, _∙_}
-use mathlib.Core.Bool.{Bool}
-use mathlib.Core.List.{List, [], _∷_}
+-- How many places a stretch has: by the stretches of the children, in closed form, and at most 12,286 for 512 slots.
+use mathlib.Core.Path.{_≡_, refl, sym, ap, ap₂, subst, _∙_}
 use Prim.Native.Nat.{ℕ, zero, suc, _+_, _*_, _-_, _^_, _%_, _≤_, _<_}
 use native.Mathlib.Omega.{arith}
-use native.Mathlib.Nat.{one-mul, mod-eq-of-lt}
-use lib.Dec.{T, leb, eqb, leb→le, eqb→eq}
-use lib.ListN.{length, getD}
+use native.Mathlib.Nat.{add-mul, mul-add, zero-add, one-mul, mod-eq-of-lt}
 use lib.Pow.{pow-lt}
-use Rattle.histogram.proofs.Table.{at-each-place}
 use Rattle.subtree.specs.Stretch.{ownPlaces, places, Planned}
 
 pub places-above : (height : ℕ) → places (suc height) ≡ ownPlaces (suc height) + places height + places height
@@ -21,17 +16,30 @@ unfolding places
 own-first zero = omega arith
 own-first (suc height) = omega arith
 
--- the table of the code
-abbrev pub table : List ℕ
-table = 4 ∷ 14 ∷ 38 ∷ 94 ∷ 222 ∷ 510 ∷ 1150 ∷ 2558 ∷ 5630 ∷ 12286 ∷ []
-
-pub table-right : (height : ℕ) → height ≤ 9 → getD table height 0 ≡ places height
+-- in closed form
+pub places-are : (height : ℕ) → places height + 2 ≡ 2 ^ height * (2 * height + 6)
 unfolding places
-table-right height in-tree = eqb→eq (getD table height 0) (places height) (at-each-place (λ place entry. eqb entry (places place)) table tt height (omega arith))
+places-are zero = refl
+places-are (suc height) =
+    let power : ℕ = 2 ^ height in
+    let twice : 2 ^ suc height ≡ power + power = omega arith in
+    let more : 2 * suc height + 6 ≡ 2 * height + 6 + 2 = omega arith in
+    let each : power * (2 * height + 6 + 2) ≡ power * (2 * height + 6) + power * 2 = mul-add power (2 * height + 6) 2 in
+    let both : 2 ^ suc height * (2 * suc height + 6) ≡ power * (2 * height + 6 + 2) + power * (2 * height + 6 + 2) =
+    ap₂ _*_ twice more ∙ add-mul power power (2 * height + 6 + 2) in
+    omega (arith, places-are height, each, both)
+
+higher : (height more : ℕ) → places height ≤ places (more + height)
+higher height zero = subst (λ (other : ℕ). places height ≤ places other) (sym (zero-add height)) (omega arith)
+higher height (suc more) =
+    let one : suc more + height ≡ suc (more + height) = omega arith in
+    subst (λ (other : ℕ). places height ≤ places other) (sym one) (omega (arith, higher height more, places-above (more + height)))
 
 pub places-within : (height : ℕ) → height ≤ 9 → places height ≤ 12286
 unfolding places
-places-within height in-tree = leb→le (places height) 12286 (at-each-place (λ place entry. leb (places place) 12286) table tt height (omega arith))
+places-within height in-tree =
+    let all : 9 - height + height ≡ 9 = omega arith in
+    subst (λ (other : ℕ). places height ≤ places other) all (higher height (9 - height))
 
 -- the power that a shift gives
 pub one-shifted : (count : ℕ) → count < 64 → 1 * 2 ^ count % 2 ^ 64 ≡ 2 ^ count

@@ -13,14 +13,12 @@ ghost use Rattle.claims.specs.Inner.{lifted};
 ghost use Rattle.windows.specs.Scratch.{at};
 ghost use Rattle.subtree.specs.Stretch.{places, Solvable, Solved, Planned, Combinable, CombinedAt, Headed, LeafSolved, Counted};
 
-// The places of a stretch, by the height of its subtree.
-const PLACES: [usize; 10] = [4, 14, 38, 94, 222, 510, 1150, 2558, 5630, 12286];
-
-fn places_of(height: usize) -> usize
-    requires { ⌜ height ≤ 9 ⌝ }
+// The places of a stretch, by the height of its subtree and its number of slots.
+fn places_of(height: usize, slots: usize) -> usize
+    requires { ⌜ (height ≤ 9) × (slots ≡ 2 ^ height) ⌝ }
     ensures { λ r. ⌜ (r ≡ places height) × (r ≤ 12286) ⌝ }
 {
-    PLACES[height]
+    slots * (2 * height + 6) - 2
 }
 
 fn power_of_two(exponent: usize) -> usize
@@ -44,7 +42,7 @@ pub fn plan(height: usize) -> Parts
     ensures { λ r. ⌜ Planned height (r .half) (r .own) (r .middle) (r .end) ⌝ }
 {
     let half = power_of_two(height - 1);
-    let child = places_of(height - 1);
+    let child = places_of(height - 1, half);
     let own = 4 * half + 2;
     let middle = own + child;
     Parts {

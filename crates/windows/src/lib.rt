@@ -138,7 +138,7 @@ fn larger(one: usize, other: usize) -> usize
     if one < other { other } else { one }
 }
 
-fn smaller(one: usize, other: usize) -> usize
+pub fn smaller(one: usize, other: usize) -> usize
     ensures { λ r. ⌜ r ≡ min one other ⌝ }
 {
     if one < other { one } else { other }

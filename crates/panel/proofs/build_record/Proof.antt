@@ -4,6 +4,7 @@ use mathlib.Core.Path.{sym, _∙_}
 use native.Mathlib.Omega.{arith}
 use lib.Seq.{length-take-le}
 use mir.Facts.{toZ-ofZ}
+use Rattle.build.specs.Building.{handedOver}
 use Rattle.panel.proofs.Records.{nodes-enough, values-enough, record-refused, record-built, bytes-few}
 use Rattle.panel.proofs.build_record.Statement.{statement}
 use Rattle.panel.proofs.build_record.Tie as tie
@@ -60,9 +61,10 @@ returns c =
     let start = c .before .before .before .before .before .before .before .before .before .before .before .before .before .before .before .before .before .before in
     let built = c .before .before .before .before .before .before .before .before .before .before .before .before .before .build-synopsis in
     let written = c .before .before .before .before .before .before .write-record in
+    let terms = handedOver (built .result .count) (built .last .1 .1 .1 .0) (built .last .1 .1 .1 .1 .0) in
     let of-build = rw (toZ-ofZ (start .fits .rest), toZ-ofZ (start .fits .band)) at (built .ensures .0) in
     let of-write = rw (toZ-ofZ (start .fits .rest), toZ-ofZ (start .fits .band)) at (written .ensures) in
-    record-refused (start .pre) of-build (omega arith) (omega arith) of-write (c .pack .result) (omega arith) (c .pack .ensures)
+    record-refused (start .pre) {terms = terms} of-build (omega arith) (omega arith) of-write (c .pack .result) (omega arith) (c .pack .ensures)
 
 cast-pack-2 : tie.Need-cast-pack-2
 cast-pack-2 c = search needs
@@ -72,10 +74,11 @@ pack-requires-2 c κs =
     let start = c .before .before .before .before .before .before .before .before .before .before .before .before .before .before .before .before .before in
     let built = c .before .before .before .before .before .before .before .before .before .before .before .before .build-synopsis in
     let written = c .before .before .before .before .before .write-record in
+    let terms = handedOver (built .result .count) (built .last .1 .1 .1 .0) (built .last .1 .1 .1 .1 .0) in
     let of-build = rw (toZ-ofZ (start .fits .rest), toZ-ofZ (start .fits .band)) at (built .ensures .0) in
     let of-write = rw (toZ-ofZ (start .fits .rest), toZ-ofZ (start .fits .band)) at (written .ensures) in
     let few = nodes-enough (built .result .count) (built .last .1 .1 .1 .0) (built .last .1 .1 .1 .1 .0) (built .ensures .0 .count-is) in
-    let short = bytes-few (start .pre) of-build (omega arith) (omega arith) of-write 0 (omega arith) (omega arith) in
+    let short = bytes-few (start .pre) {terms = terms} of-build (omega arith) (omega arith) of-write 0 (omega arith) (omega arith) in
     record { refusal-fits = omega arith; first-fits = omega arith; second-fits = omega arith; third-fits = omega arith }
 
 same-length-2 : tie.Need-same-length-2
@@ -86,9 +89,10 @@ returns-2 c =
     let start = c .before .before .before .before .before .before .before .before .before .before .before .before .before .before .before .before .before .before in
     let built = c .before .before .before .before .before .before .before .before .before .before .before .before .before .build-synopsis in
     let written = c .before .before .before .before .before .before .write-record in
+    let terms = handedOver (built .result .count) (built .last .1 .1 .1 .0) (built .last .1 .1 .1 .1 .0) in
     let of-build = rw (toZ-ofZ (start .fits .rest), toZ-ofZ (start .fits .band)) at (built .ensures .0) in
     let of-write = rw (toZ-ofZ (start .fits .rest), toZ-ofZ (start .fits .band)) at (written .ensures) in
-    record-built (start .pre) of-build (omega arith) (omega arith) of-write (c .pack2 .result) (omega arith) (c .pack2 .ensures)
+    record-built (start .pre) {terms = terms} of-build (omega arith) (omega arith) of-write (c .pack2 .result) (omega arith) (c .pack2 .ensures)
 
 pub build-record-spec : {M : Type 1} → statement M
 build-record-spec =
