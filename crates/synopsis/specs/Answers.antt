@@ -1,0 +1,22 @@
+-- The answers of the calls that hand terms over in a slice of terms. For the auditor.
+-- The answers of the other calls are those of the crates below, on the list of terms that is lent.
+use mathlib.Core.Path.{_≡_}
+use mathlib.Core.List.{List, []}
+use Prim.Native.Nat.{ℕ, _<_}
+use lib.IntN.{ℤ}
+use lib.ListN.{length, drop}
+use Rattle.limits.specs.Answers.{granted, laid}
+use Rattle.histogram.specs.declared.Term.{Term}
+use Rattle.record.specs.Record.{termsIn}
+use Rattle.record.specs.Answers.{readingRefusal, HeaderOf}
+
+-- a record read into a destination for its terms
+pub record TermsRead (bytes : List ℕ) (refusal slots : ℕ) (band rest : ℤ) (count : ℕ) (terms terms′ : List Term) : Type 0 where
+  pub refusal-is : refusal ≡ readingRefusal bytes (length terms)
+  pub header : HeaderOf bytes refusal slots band rest count
+  pub terms-are : terms′ ≡ laid (granted refusal (termsIn bytes) []) terms
+
+-- lent memory after building: "places of an output past what is written hold what they held", and a refusal leaves scratch as it was
+pub record TermsHanded (refusal count : ℕ) (terms terms′ : List Term) (scratch scratch′ : List ℤ) : Type 0 where
+  pub past : drop count terms′ ≡ drop count terms
+  pub scratch-refused : 0 < refusal → scratch′ ≡ scratch
