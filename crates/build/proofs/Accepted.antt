@@ -14,7 +14,7 @@ use Rattle.limits.proofs.Beyond.{within-all}
 use Rattle.limits.proofs.Refusals.{passed, passed-last, none-of-two, SlotsWithin, slots-within}
 use Rattle.histogram.specs.Tree.{padded}
 use Rattle.claims.specs.Inner.{InRange}
-use Rattle.build.specs.Building.{profileRefusal, buildRefusal, destinationShort, scratchShort}
+use Rattle.build.specs.Building.{valuesRefusal, buildRefusal, destinationShort, scratchShort}
 use Rattle.build.specs.LeastBand.{leastBandRefusal}
 use Rattle.build.specs.Inner.{Acceptable, Buildable}
 
@@ -23,7 +23,7 @@ pub record ProfileAccepted (profile : List ℤ) (rest : ℤ) : Type 0 where
   pub slots : SlotsWithin (length profile)
   pub in-range : InRange profile rest
 
-pub profile-accepted : (profile : List ℤ) (rest : ℤ) → profileRefusal profile rest ≡ 0 → ProfileAccepted profile rest
+pub profile-accepted : (profile : List ℤ) (rest : ℤ) → valuesRefusal profile rest ≡ 0 → ProfileAccepted profile rest
 profile-accepted profile rest none =
     let four = passed 3 (outsideSlots (length profile)) _ none in
     let two = passed 1 (beyond 20000 rest) _ (four .1) in
@@ -56,7 +56,7 @@ acceptable accepted scratch long = record {
 pub buildable : (profile : List ℤ) (rest band : ℤ) (nodes : List ℕ) (values scratch : List ℤ) → length nodes ≡ length values
     → buildRefusal profile rest band (length nodes) (length scratch) ≡ 0 → Buildable profile rest (natAbs band) nodes values scratch
 buildable profile rest band nodes values scratch same-length none =
-    let of-profile = none-of-two (profileRefusal profile rest) _ none in
+    let of-profile = none-of-two (valuesRefusal profile rest) _ none in
     let three = passed 2 (outsideBand band) _ (of-profile .1) in
     let six = neither (destinationShort profile (length nodes)) (scratchShort (length scratch)) (passed-last 5 _ (three .1)) in
     record {
@@ -68,12 +68,12 @@ buildable profile rest band nodes values scratch same-length none =
 
 pub findable : (profile : List ℤ) (rest : ℤ) (budget : ℕ) (scratch : List ℤ) → leastBandRefusal profile rest budget (length scratch) ≡ 0 → Acceptable profile rest scratch
 findable profile rest budget scratch none =
-    let of-profile = none-of-two (profileRefusal profile rest) _ none in
+    let of-profile = none-of-two (valuesRefusal profile rest) _ none in
     let five = passed 4 (ltb 1023 budget) _ (of-profile .1) in
     acceptable (profile-accepted profile rest (of-profile .0)) scratch (passed-last 5 (scratchShort (length scratch)) (five .1))
 
 pub build-band-within : (profile : List ℤ) (rest band : ℤ) (places numbers : ℕ) → buildRefusal profile rest band places numbers ≡ 0 → natAbs band ≤ 40000
-build-band-within profile rest band places numbers none = band-accepted band (passed 2 (outsideBand band) _ (none-of-two (profileRefusal profile rest) _ none .1) .0)
+build-band-within profile rest band places numbers none = band-accepted band (passed 2 (outsideBand band) _ (none-of-two (valuesRefusal profile rest) _ none .1) .0)
 
 -- a band that is not refused is not below 0
 not-below-zero : (band : ℤ) → outsideBand band ≡ false → T (nonNeg band)
@@ -81,4 +81,4 @@ not-below-zero (pos band) inside = tt
 not-below-zero (negsuc below) inside = absurd (subst T inside tt)
 
 pub band-from-zero : (profile : List ℤ) (rest band : ℤ) (places numbers : ℕ) → buildRefusal profile rest band places numbers ≡ 0 → T (nonNeg band)
-band-from-zero profile rest band places numbers none = not-below-zero band (passed 2 (outsideBand band) _ (none-of-two (profileRefusal profile rest) _ none .1) .0)
+band-from-zero profile rest band places numbers none = not-below-zero band (passed 2 (outsideBand band) _ (none-of-two (valuesRefusal profile rest) _ none .1) .0)

@@ -16,8 +16,8 @@ use Rattle.histogram.specs.Errors.{greatestError}
 use Rattle.claims.specs.Best.{Best}
 
 -- what is wrong with setpoints and their rest value: 4, then "2 (rest first)"
-abbrev pub profileRefusal : List ℤ → ℤ → ℕ
-profileRefusal profile rest = 4 when outsideSlots (length profile) then 2 when beyond 20000 rest then 2 when anyBeyond profile
+abbrev pub valuesRefusal : List ℤ → ℤ → ℕ
+valuesRefusal profile rest = 4 when outsideSlots (length profile) then 2 when beyond 20000 rest then 2 when anyBeyond profile
 
 -- row 6: "a destination of at least m terms (building only) and 12,288 scratch numbers", whatever n is
 abbrev pub destinationShort : List ℤ → ℕ → Bool
@@ -29,7 +29,7 @@ scratchShort numbers = ltb numbers 12288
 -- "Building: 4, 2 (rest first), 3, 6"
 abbrev pub buildRefusal : List ℤ → ℤ → ℤ → ℕ → ℕ → ℕ
 buildRefusal profile rest band places numbers =
-    profileRefusal profile rest then 3 when outsideBand band then 6 when (destinationShort profile places || scratchShort numbers)
+    valuesRefusal profile rest then 3 when outsideBand band then 6 when (destinationShort profile places || scratchShort numbers)
 
 -- "the terms, their count and the greatest error": of the terms handed over, which are none on a refusal
 pub record Built (profile : List ℤ) (rest band : ℤ) (places numbers refusal count error : ℕ) (terms : List Term) : Type 0 where

@@ -8,11 +8,11 @@ use lib.IntN.{ℤ}
 use lib.ListN.{length}
 use Rattle.limits.specs.Answers.{_when_, _then_}
 use Rattle.claims.specs.LeastBand.{LeastBand}
-use Rattle.build.specs.Building.{profileRefusal, scratchShort}
+use Rattle.build.specs.Building.{valuesRefusal, scratchShort}
 
 -- "Least band: 4, 2, 5, 6"
 abbrev pub leastBandRefusal : List ℤ → ℤ → ℕ → ℕ → ℕ
-leastBandRefusal profile rest budget numbers = profileRefusal profile rest then 5 when ltb 1023 budget then 6 when scratchShort numbers
+leastBandRefusal profile rest budget numbers = valuesRefusal profile rest then 5 when ltb 1023 budget then 6 when scratchShort numbers
 
 -- the answer, and scratch before and after
 pub record LeastBandFound (profile : List ℤ) (rest : ℤ) (budget refusal band : ℕ) (scratch scratch′ : List ℤ) : Type 0 where

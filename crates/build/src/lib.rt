@@ -12,7 +12,7 @@ use tree::least_band_within;
 ghost use mathlib.Core.Path.{_≡_};
 ghost use lib.ListN.{length};
 ghost use Rattle.claims.specs.LeastBand.{LeastBand};
-ghost use Rattle.build.specs.Building.{profileRefusal, scratchShort, buildRefusal, Built, handedOver, MemoryLeft};
+ghost use Rattle.build.specs.Building.{valuesRefusal, scratchShort, buildRefusal, Built, handedOver, MemoryLeft};
 ghost use Rattle.build.specs.LeastBand.{leastBandRefusal, LeastBandFound};
 ghost use Rattle.build.specs.Inner.{Acceptable, Buildable, BestBuilt};
 
@@ -51,7 +51,7 @@ pub fn build_synopsis(
 fn refuse_build(setpoints: &[i16], rest: i32, band: i32, places: usize, numbers: usize) -> u8
     ensures { λ r. ⌜ r ≡ buildRefusal (now (setpoints .entry)) rest band places numbers ⌝ }
 {
-    let wrong = refuse_profile(setpoints, rest);
+    let wrong = refuse_setpoints(setpoints, rest);
     if 0 < wrong {
         return wrong;
     }
@@ -68,8 +68,8 @@ fn refuse_build(setpoints: &[i16], rest: i32, band: i32, places: usize, numbers:
 }
 
 // The number that refuses setpoints and their rest value; 0 for none.
-fn refuse_profile(setpoints: &[i16], rest: i32) -> u8
-    ensures { λ r. ⌜ r ≡ profileRefusal (now (setpoints .entry)) rest ⌝ }
+fn refuse_setpoints(setpoints: &[i16], rest: i32) -> u8
+    ensures { λ r. ⌜ r ≡ valuesRefusal (now (setpoints .entry)) rest ⌝ }
 {
     if limits::is_outside_slots(setpoints.len()) {
         return 4;
@@ -143,7 +143,7 @@ pub fn least_band(setpoints: &[i16], rest: i32, budget: u32, scratch: &mut [i16]
 fn refuse_least_band(setpoints: &[i16], rest: i32, budget: u32, numbers: usize) -> u8
     ensures { λ r. ⌜ r ≡ leastBandRefusal (now (setpoints .entry)) rest budget numbers ⌝ }
 {
-    let wrong = refuse_profile(setpoints, rest);
+    let wrong = refuse_setpoints(setpoints, rest);
     if 0 < wrong {
         return wrong;
     }

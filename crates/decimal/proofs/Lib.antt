@@ -1,5 +1,6 @@
 pub mod Fractions
 pub mod Fronts
 pub mod RoundTrip
+pub mod ShortNumbers
 pub mod Texts
 pub mod Units

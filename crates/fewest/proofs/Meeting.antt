@@ -6,6 +6,7 @@ use mathlib.Core.Bool.{Bool, true, false, _&&_, _||_}
 use Prim.Native.Nat.{ℕ, suc, _+_, _*_, _≤_}
 use native.Mathlib.Omega.{arith}
 use lib.Dec.{T}
+use mir.Facts.{yes-and}
 use Rattle.fewest.specs.Node.{missed, cheapest}
 use Rattle.fewest.specs.Tree.{binary, total}
 use Rattle.fewest.specs.Cost.{cost}
@@ -21,10 +22,6 @@ both-passed true true passes = refl
 both-missed-at-most : (a b : Bool) → missed (a && b) ≤ missed a + missed b
 both-missed-at-most true b = omega arith
 both-missed-at-most false b = omega arith
-
--- two tests that pass, pass together
-both-pass : (a b : Bool) → T a → T b → T (a && b)
-both-pass true b first second = second
 
 -- of two tests that do not pass together one is missed, and the other as well where neither passes
 one-missed : (a b : Bool) → (T a → T b → ⊥) → missed a + missed b ≡ 1 + missed (a || b)
@@ -51,7 +48,7 @@ module _ (accepts : ℕ → ℕ → Bool) (top height i : ℕ) {s t : ℕ} {left
   sets-meet w w-within in-left in-right = record {
     at-least = λ v within. omega (arith, children-cost v within, both-missed-at-most (left v) (right v));
     inside-costs = λ v within inside. omega (arith, children-cost v within, both-passed (left v) (right v) inside);
-    not-empty = record { value = w; within = w-within; inside = both-pass (left w) (right w) in-left in-right };
+    not-empty = record { value = w; within = w-within; inside = yes-and (left w) (right w) in-left in-right };
   }
 
   -- the sets are apart: one more than the sum, and what is in either

@@ -3,15 +3,18 @@ use build::build_synopsis;
 use decimal::write::write_number;
 use histogram::restore::restore_profile;
 use libc::STDIN_FILENO;
-use libc::STDOUT_FILENO;
+use printing::print;
+use printing::print_count;
 use profile::read_text;
 ghost use mathlib.Core.Path.{_≡_};
 ghost use Prim.Native.Nat.{_≤_};
 ghost use lib.ListN.{length};
+ghost use Rattle.panel.specs.Inner.{RightProfile};
 
 fn main() {
-    // The first 4,113 bytes decide. An accepted text has at most 514 lines of 8 bytes, as `-200,00` and the byte 10.
-    // Of a longer text they hold a line that is refused, since more than 7 bytes stand before its end, or 514 lines and a byte more.
+    // The first 4,113 bytes decide (`first-bytes-read` in profile/proofs/Decided.antt).
+    // An accepted text has at most 514 lines of 8 bytes, as `-200,00` and the byte 10. Of a longer text they hold a line
+    // that is refused, since more than 7 bytes stand before its end, or 514 lines and a byte more.
     let mut text = [0u8; 4113];
     let count = io::read_full(STDIN_FILENO, &mut text);
     fire(&text[..count]);
@@ -28,17 +31,14 @@ fn fire(text: &[u8]) {
     fire_profile(&setpoints[..slots], read.rest, read.band);
 }
 
+// Building refuses no profile that was read.
 fn fire_profile(setpoints: &[i16], rest: i32, band: i32)
-    requires { ⌜ length (now setpoints) ≤ 512 ⌝ }
+    requires { ⌜ RightProfile (now setpoints) rest band ⌝ }
 {
     let mut nodes = [0u16; 512];
     let mut values = [0i16; 512];
     let mut scratch = [0i16; 12288];
     let built = build_synopsis(setpoints, rest, band, &mut nodes, &mut values, &mut scratch);
-    if 0 < built.refusal {
-        print_refused(built.refusal);
-        return;
-    }
     let count = built.count;
     print_summary(setpoints.len(), count, band, built.error);
     print_synopsis(setpoints.len(), rest, &nodes[..count], &values[..count]);
@@ -110,12 +110,4 @@ fn print_hundredths(number: i32) {
     let written = write_number(number, &mut text);
     let count = written.count;
     print(&text[..count]);
-}
-
-fn print_count(count: usize) {
-    io::print_decimal(STDOUT_FILENO, count as u64);
-}
-
-fn print(text: &[u8]) {
-    io::write_all(STDOUT_FILENO, text);
 }

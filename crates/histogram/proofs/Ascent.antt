@@ -7,12 +7,12 @@ use native.Mathlib.Omega.{arith}
 use lib.Dec.{T, ltb, ltb→lt, lt→ltb, nltb→le}
 use lib.IntN.{ℤ, natAbs}
 use lib.ListN.{length, getD}
+use mir.Facts.{and-yes, yes-and}
 use borrow.Author.Tests.{ne-eqb, le-ltb}
 use Rattle.limits.specs.Limits.{beyond}
 use Rattle.histogram.specs.declared.Term.{Term}
 use Rattle.histogram.specs.Terms.{paired, validFrom, termOr}
 use Rattle.histogram.specs.Inner.{Ascending}
-use Rattle.histogram.proofs.Conjunction.{first-of, second-of, both-of}
 
 -- the test as a statement, from which the bounds and the list can be inferred
 pub record ValidFrom (last end : ℕ) (terms : List Term) : Type 0 where
@@ -21,29 +21,29 @@ pub record ValidFrom (last end : ℕ) (terms : List Term) : Type 0 where
 module _ {last end : ℕ} {term : Term} {terms : List Term} (valid : ValidFrom last end (term ∷ terms)) where
   pub first-above : last < term .node
   unfolding validFrom
-  first-above = ltb→lt last (term .node) (first-of (ltb last (term .node)) _ (valid .passes))
+  first-above = ltb→lt last (term .node) (and-yes (ltb last (term .node)) _ (valid .passes) .0)
 
   pub first-below : term .node < end
   unfolding validFrom
-  first-below = ltb→lt (term .node) end (first-of (ltb (term .node) end) _ (second-of (ltb last (term .node)) _ (valid .passes)))
+  first-below = ltb→lt (term .node) end (and-yes (ltb (term .node) end) _ (and-yes (ltb last (term .node)) _ (valid .passes) .1) .0)
 
   pub first-within : natAbs (term .value) ≤ 20000
   unfolding validFrom
   first-within =
       nltb→le 20000 (natAbs (term .value))
-      (first-of (not (beyond 20000 (term .value))) _ (second-of (ltb (term .node) end) _ (second-of (ltb last (term .node)) _ (valid .passes))))
+      (and-yes (not (beyond 20000 (term .value))) _ (and-yes (ltb (term .node) end) _ (and-yes (ltb last (term .node)) _ (valid .passes) .1) .1) .0)
 
   pub rest-valid : ValidFrom (term .node) end terms
   unfolding validFrom
   rest-valid = record {
-    passes = second-of (not (beyond 20000 (term .value))) _ (second-of (ltb (term .node) end) _ (second-of (ltb last (term .node)) _ (valid .passes)));
+    passes = and-yes (not (beyond 20000 (term .value))) _ (and-yes (ltb (term .node) end) _ (and-yes (ltb last (term .node)) _ (valid .passes) .1) .1) .1;
   }
 
   -- the same list is valid above any bound below its first node
   pub valid-above : (bound : ℕ) → bound < term .node → ValidFrom bound end (term ∷ terms)
   unfolding validFrom
   valid-above bound below = record {
-    passes = both-of (ltb bound (term .node)) _ (lt→ltb bound (term .node) below) (second-of (ltb last (term .node)) _ (valid .passes));
+    passes = yes-and (ltb bound (term .node)) _ (lt→ltb bound (term .node) below) (and-yes (ltb last (term .node)) _ (valid .passes) .1);
   }
 
 -- a term between the bounds and within ±20,000, before a list that is valid above it
@@ -52,8 +52,8 @@ pub valid-before : {last end : ℕ} (term : Term) {terms : List Term} → last <
 unfolding validFrom
 valid-before {last} {end} term above below within valid = record {
   passes =
-      both-of (ltb last (term .node)) _ (lt→ltb last (term .node) above)
-      (both-of (ltb (term .node) end) _ (lt→ltb (term .node) end below) (both-of (not (beyond 20000 (term .value))) _ (rw (le-ltb 20000 (natAbs (term .value)) within) tt) (valid .passes)));
+      yes-and (ltb last (term .node)) _ (lt→ltb last (term .node) above)
+      (yes-and (ltb (term .node) end) _ (lt→ltb (term .node) end below) (yes-and (not (beyond 20000 (term .value))) _ (rw (le-ltb 20000 (natAbs (term .value)) within) tt) (valid .passes)));
 }
 
 pub no-term : {last end : ℕ} (terms : List Term) → ValidFrom last end terms → (otherwise : ℤ) (node : ℕ) → node ≤ last → termOr otherwise terms node ≡ otherwise

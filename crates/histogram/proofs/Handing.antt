@@ -66,17 +66,18 @@ module _ (nodes : List ℕ) (values : List ℤ) (next : ℕ) {end last node : �
       split there false answer = waits there (eqb-false _ _ answer)
 
 -- the pass before a node: every place below it holds what is restored there, and the terms before `next` say nothing of it or of later nodes
-pub record Handed (rest : ℤ) (nodes : List ℕ) (values : List ℤ) (end : ℕ) (restored : List ℤ) (next node : ℕ) : Type 0 where
+pub record Handed (rest : ℤ) (nodes : List ℕ) (values : List ℤ) (end : ℕ) (before restored : List ℤ) (next node : ℕ) : Type 0 where
   pub last : ℕ
   pub node-is : node ≡ suc last
   pub to-end : node ≤ end
   pub room : end ≤ length restored
   pub each-before : (k : ℕ) → k < node → getD restored k (pos 0) ≡ restoredAt rest (paired nodes values) k
+  pub each-past : (k : ℕ) → node ≤ k → getD restored k (pos 0) ≡ getD before k (pos 0)
   pub later : (otherwise : ℤ) (after : ℕ) → node ≤ after → termOr otherwise (paired nodes values) after ≡ termOr otherwise (onwards nodes values next) after
   pub valid : ValidFrom last end (onwards nodes values next)
 
 pub handed-rest : (rest : ℤ) (nodes : List ℕ) (values : List ℤ) (end : ℕ) (before : List ℤ) → Handing end nodes values before
-    → Handed rest nodes values end (set before 0 rest) 0 1
+    → Handed rest nodes values end (set before 0 rest) (set before 0 rest) 0 1
 handed-rest rest nodes values end before handing = record {
   last = 0;
   node-is = refl;
@@ -85,11 +86,12 @@ handed-rest rest nodes values end before handing = record {
   each-before = λ k below.
       let none : k ≡ 0 = omega arith in
       rw none (getD-set-same before 0 rest (pos 0) (omega (arith, handing .some-node, handing .room)) ∙ sym (at-no-node rest (paired nodes values)));
+  each-past = λ k from. refl;
   later = λ otherwise after from. refl;
   valid = record { passes = handing .valid };
 }
 
-module _ {rest : ℤ} {nodes : List ℕ} {values : List ℤ} {end : ℕ} {restored : List ℤ} {next node : ℕ} (handed : Handed rest nodes values end restored next node) where
+module _ {rest : ℤ} {nodes : List ℕ} {values : List ℤ} {end : ℕ} {before restored : List ℤ} {next node : ℕ} (handed : Handed rest nodes values end before restored next node) where
   node-passed : length nodes ≡ length values → Passed nodes values end node next (isNext nodes next node)
   node-passed same = passed nodes values next same (handed .node-is) (handed .valid)
 
@@ -104,7 +106,7 @@ module _ {rest : ℤ} {nodes : List ℕ} {values : List ℤ} {end : ℕ} {restor
       ∙ sym (from-above rest (paired nodes values) node (omega arith))
 
   pub handed-on : length nodes ≡ length values → node < end → {value : ℤ} {after : ℕ} → Fed nodes values next node (getD restored (node / 2) (pos 0)) value after
-      → Handed rest nodes values end (set restored node value) after (node + 1)
+      → Handed rest nodes values end before (set restored node value) after (node + 1)
   handed-on same inside {value} {after} fed =
       let room = handed .room in
       record {
@@ -117,9 +119,18 @@ module _ {rest : ℤ} {nodes : List ℕ} {values : List ℤ} {end : ℕ} {restor
             (λ before. getD-set-other restored node k value (pos 0) (λ same-place. omega arith) ∙ handed .each-before k before)
             (λ from. let here : k ≡ node = omega arith in rw here (getD-set-same restored node value (pos 0) (omega arith) ∙ own-value same fed))
             (below-or-not k node);
+        each-past = λ k from. getD-set-other restored node k value (pos 0) (λ same-place. omega arith) ∙ handed .each-past k (omega arith);
         later = λ otherwise after from. handed .later otherwise after (omega arith) ∙ rw (fed .next-is) (node-passed same .later otherwise after (omega arith));
         valid = rw (fed .next-is) (node-passed same .valid);
       }
 
-  pub handed-down : end ≤ node → HandedDown rest (paired nodes values) end restored
-  handed-down past = record { at-node = λ k below. handed .each-before k (omega arith) }
+-- the pass at its end; its first step was to put the rest value at place 0
+pub handed-down : {rest : ℤ} {nodes : List ℕ} {values : List ℤ} {end : ℕ} {before restored : List ℤ} {next node : ℕ} → Handed rest nodes values end (set before 0 rest) restored next node
+    → end ≤ node → HandedDown rest (paired nodes values) end before restored
+handed-down {rest} {before = before} handed past =
+    let node-is = handed .node-is in
+    let to-end = handed .to-end in
+    record {
+      at-node = λ k below. handed .each-before k (omega arith);
+      past = λ k from. handed .each-past k (omega arith) ∙ getD-set-other before 0 k rest (pos 0) (λ same-place. omega arith);
+    }

@@ -1,6 +1,5 @@
 pub mod Above
 pub mod Ascent
-pub mod Conjunction
 pub mod Counted
 pub mod Expected
 pub mod Handing

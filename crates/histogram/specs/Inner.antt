@@ -34,9 +34,10 @@ pub record Handing (end : ℕ) (nodes : List ℕ) (values : List ℤ) (before : 
   pub some-node : 1 ≤ end
   pub room : end ≤ length before
 
--- the value restored at each node below `end`, and the rest value at place 0
-pub record HandedDown (rest : ℤ) (terms : List Term) (end : ℕ) (after : List ℤ) : Type 0 where
+-- the value restored at each node below `end`, and the rest value at place 0; places from `end` on hold what they held
+pub record HandedDown (rest : ℤ) (terms : List Term) (end : ℕ) (before after : List ℤ) : Type 0 where
   pub at-node : (node : ℕ) → node < end → getD after node (pos 0) ≡ restoredAt rest terms node
+  pub past : (place : ℕ) → end ≤ place → getD after place (pos 0) ≡ getD before place (pos 0)
 
 -- whether the term at place `next` is that of the node
 abbrev pub isNext : List ℕ → ℕ → ℕ → Bool

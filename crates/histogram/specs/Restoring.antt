@@ -21,8 +21,8 @@ abbrev pub slotRefusal : ℕ → ℤ → List Term → ℕ → ℕ
 slotRefusal n rest terms slot = synopsisRefusal n rest terms then 10 when leb n slot
 
 -- every slot: the synopsis's, then 6
-abbrev pub profileRefusal : ℕ → ℤ → List Term → ℕ → ℕ
-profileRefusal n rest terms places = synopsisRefusal n rest terms then 6 when ltb places n
+abbrev pub restoringRefusal : ℕ → ℤ → List Term → ℕ → ℕ
+restoringRefusal n rest terms places = synopsisRefusal n rest terms then 6 when ltb places n
 
 -- the answer for one slot
 pub record SlotRestored (n : ℕ) (rest : ℤ) (terms : List Term) (slot : ℕ) (refusal : ℕ) (setpoint : ℤ) : Type 0 where
@@ -31,5 +31,5 @@ pub record SlotRestored (n : ℕ) (rest : ℤ) (terms : List Term) (slot : ℕ) 
 
 -- the answer for every slot, and what the destination holds before and after
 pub record ProfileRestored (n : ℕ) (rest : ℤ) (terms : List Term) (refusal : ℕ) (before after : List ℤ) : Type 0 where
-  pub refusal-is : refusal ≡ profileRefusal n rest terms (length before)
+  pub refusal-is : refusal ≡ restoringRefusal n rest terms (length before)
   pub destination-is : after ≡ laid (granted refusal (restoredProfile n rest terms) []) before

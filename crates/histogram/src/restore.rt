@@ -52,6 +52,20 @@ pub fn restore_slot(
             setpoint: 0,
         };
     }
+    restore_checked_slot(slots, rest, nodes, values, slot)
+}
+
+// The same, of a synopsis that is not refused.
+pub fn restore_checked_slot(
+    slots: usize,
+    rest: i32,
+    nodes: &[u16],
+    values: &[i16],
+    slot: usize,
+) -> SlotAnswer
+    requires { ⌜ (length (now nodes) ≡ length (now values)) × (synopsisRefusal slots rest (paired (now nodes) (now values)) ≡ 0) ⌝ }
+    ensures { λ r. ⌜ SlotRestored slots rest (paired (now (nodes .entry)) (now (values .entry))) slot (r .refusal) (r .setpoint) ⌝ }
+{
     if slots <= slot {
         return SlotAnswer {
             refusal: 10,
@@ -113,7 +127,7 @@ pub fn restore_profile(
 // One pass hands the values down: node i / 2 stands before node i, and the terms come in the nodes' order.
 pub fn hand_down(end: usize, rest: i16, nodes: &[u16], values: &[i16], restored: &mut [i16])
     requires { ⌜ Handing end (now nodes) (now values) (now restored) ⌝ }
-    ensures { λ _. ⌜ HandedDown rest (paired (now (nodes .entry)) (now (values .entry))) end (now (restored .exit)) ⌝ }
+    ensures { λ _. ⌜ HandedDown rest (paired (now (nodes .entry)) (now (values .entry))) end (now (restored .entry)) (now (restored .exit)) ⌝ }
 {
     restored[0] = rest;
     let mut next = 0;

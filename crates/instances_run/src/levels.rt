@@ -1,14 +1,22 @@
 // Levels of nodes, of the number 0 and of numbers above the table.
-use crate::print;
-use crate::print_number;
 use histogram::level::level;
+use printing::print;
+use printing::print_number_after;
 
 pub fn run() {
+    lowest();
+    highest();
+}
+
+fn lowest() {
     show(0);
     show(1);
     show(2);
     show(3);
     show(4);
+}
+
+fn highest() {
     show(511);
     show(512);
     show(1023);
@@ -17,9 +25,7 @@ pub fn run() {
 }
 
 fn show(node: u16) {
-    print(b"level of ");
-    print_number(node as i32);
-    print(b": ");
-    print_number(level(node) as i32);
+    print_number_after(b"level of ", node as i32);
+    print_number_after(b": ", level(node) as i32);
     print(b"\n");
 }

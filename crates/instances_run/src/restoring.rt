@@ -1,13 +1,23 @@
 // Setpoints restored from lists of terms.
-use crate::print;
-use crate::print_count;
-use crate::print_number;
-use crate::print_setpoint;
 use histogram::restore::restore_profile;
 use histogram::restore::restore_slot;
+use printing::print;
+use printing::print_count_after;
+use printing::print_refusal;
+use printing::print_setpoint;
+use printing::print_setpoints;
+ghost use mathlib.Core.Path.{_≡_};
+ghost use lib.ListN.{length};
 
 pub fn run() {
-    // Document 01's firing: a rest value of 14,00 and one term at node 3.
+    document();
+    refused();
+    refused_terms();
+    nested();
+}
+
+// Document 01's firing: a rest value of 14,00 and one term at node 3.
+fn document() {
     let nodes = [3u16];
     let values = [1975i16];
     slot(4, 1400, &nodes, &values, 0);
@@ -15,8 +25,26 @@ pub fn run() {
     slot(4, 1400, &nodes, &values, 2);
     slot(4, 1400, &nodes, &values, 3);
     profile(4, 1400, &nodes, &values);
-    refused();
-    nested();
+}
+
+// Each refusal with what would be refused after it still wrong.
+fn refused() {
+    let nodes = [3u16, 3];
+    let values = [1i16, 2];
+    slot(0, 20001, &nodes, &values, 9);
+    slot(513, 0, &nodes, &values, 9);
+    slot(4, -20001, &nodes, &values, 9);
+    slot(4, 0, &nodes, &values, 9);
+    slot(1, 0, &nodes, &values, 9);
+}
+
+fn refused_terms() {
+    let nodes = [3u16];
+    let values = [1i16];
+    slot(4, 0, &nodes, &values, 4);
+    profile(512, 0, &nodes, &values);
+    let far = [20001i16];
+    slot(4, 0, &nodes, &far, 0);
 }
 
 // A term of value 0 below another one, and a slot's own term.
@@ -27,47 +55,25 @@ fn nested() {
     profile(4, 9, &nodes, &values);
 }
 
-fn refused() {
-    let nodes = [3u16, 3];
-    let values = [1i16, 2];
-    slot(0, 20001, &nodes, &values, 9);
-    slot(513, 0, &nodes, &values, 9);
-    slot(4, -20001, &nodes, &values, 9);
-    slot(4, 0, &nodes, &values, 9);
-    slot(1, 0, &nodes, &values, 9);
-    slot(4, 0, &nodes[..1], &values[..1], 4);
-    profile(512, 0, &nodes[..1], &values[..1]);
-    let far = [20001i16];
-    slot(4, 0, &nodes[..1], &far, 0);
-}
-
-fn slot(slots: usize, rest: i32, nodes: &[u16], values: &[i16], asked: usize) {
-    if nodes.len() == values.len() {
-        let answer = restore_slot(slots, rest, nodes, values, asked);
-        print(b"slot ");
-        print_count(asked);
-        print(b" of ");
-        print_count(slots);
-        print(b": ");
-        print_number(answer.refusal as i32);
-        print_setpoint(answer.setpoint);
-        print(b"\n");
-    }
+fn slot(slots: usize, rest: i32, nodes: &[u16], values: &[i16], asked: usize)
+    requires { ⌜ length (now nodes) ≡ length (now values) ⌝ }
+{
+    let answer = restore_slot(slots, rest, nodes, values, asked);
+    print_count_after(b"slot ", asked);
+    print_count_after(b" of ", slots);
+    print_refusal(answer.refusal);
+    print_setpoint(answer.setpoint);
+    print(b"\n");
 }
 
 // All slots into a destination of four.
-fn profile(slots: usize, rest: i32, nodes: &[u16], values: &[i16]) {
-    if nodes.len() == values.len() {
-        let mut setpoints = [7i16; 4];
-        let refusal = restore_profile(slots, rest, nodes, values, &mut setpoints);
-        print(b"all of ");
-        print_count(slots);
-        print(b": ");
-        print_number(refusal as i32);
-        print_setpoint(setpoints[0]);
-        print_setpoint(setpoints[1]);
-        print_setpoint(setpoints[2]);
-        print_setpoint(setpoints[3]);
-        print(b"\n");
-    }
+fn profile(slots: usize, rest: i32, nodes: &[u16], values: &[i16])
+    requires { ⌜ length (now nodes) ≡ length (now values) ⌝ }
+{
+    let mut setpoints = [7i16; 4];
+    let refusal = restore_profile(slots, rest, nodes, values, &mut setpoints);
+    print_count_after(b"all of ", slots);
+    print_refusal(refusal);
+    print_setpoints(&setpoints);
+    print(b"\n");
 }

@@ -1,11 +1,22 @@
 // Profile texts.
-use crate::print;
-use crate::print_count;
-use crate::print_number;
-use crate::print_setpoint;
+use printing::print;
+use printing::print_count_after;
+use printing::print_number_after;
+use printing::print_refusal;
+use printing::print_setpoint;
+use profile::TextAnswer;
 use profile::read_profile;
 
 pub fn run() {
+    document();
+    limits();
+    malformed();
+    lines();
+    short();
+}
+
+// Document 01's instances.
+fn document() {
     show(b"no bytes", b"");
     show(b"two good lines", b"14,00\n0,25\n");
     show(
@@ -14,14 +25,19 @@ pub fn run() {
     );
     show(b"a setpoint at the limit", b"0\n0\n200,00\n");
     show(b"a setpoint beyond it", b"0\n0\n200,01\n");
+}
+
+// Rest values and bands beyond their limits.
+fn limits() {
     show(b"a rest value beyond it", b"999,01\n");
     show(b"a negative band", b"0\n-0,01\n0\n");
     show(b"a band beyond 400,00", b"0\n400,01\n0\n");
+}
+
+fn malformed() {
     show(b"the last line unended", b"0\n0\n999");
     show(b"an empty line", b"0\n\n0\n");
     show(b"a setpoint that is no number", b"0\n0\n0\n1.450\n");
-    lines();
-    short();
 }
 
 // What it is, then the refusal's number, the rest value, the band, the number of slots and the destination's first two places.
@@ -29,43 +45,42 @@ fn show(what: &[u8], text: &[u8]) {
     let mut setpoints = [7i16; 512];
     let answer = read_profile(text, &mut setpoints);
     print(what);
-    print(b": ");
-    print_number(answer.refusal as i32);
-    print(b" ");
-    print_number(answer.rest);
-    print(b" ");
-    print_number(answer.band);
-    print(b" ");
-    print_count(answer.slots);
+    print_answer(answer);
     print_setpoint(setpoints[0]);
     print_setpoint(setpoints[1]);
     print(b"\n");
+}
+
+fn print_answer(answer: TextAnswer) {
+    print_refusal(answer.refusal);
+    print_number_after(b" ", answer.rest);
+    print_number_after(b" ", answer.band);
+    print_count_after(b" ", answer.slots);
 }
 
 // A destination for one setpoint fewer than there are.
 fn short() {
     let mut setpoints = [7i16; 1];
     let answer = read_profile(b"0\n0\n1\n2\n", &mut setpoints);
-    print(b"two setpoints into one place: ");
-    print_number(answer.refusal as i32);
+    print(b"two setpoints into one place");
+    print_refusal(answer.refusal);
     print_setpoint(setpoints[0]);
     print(b"\n");
 }
 
-// Texts of one-digit lines.
+// Texts of lines of one digit.
 fn lines() {
-    let mut text = [b'0'; 1030];
-    end_lines(&mut text);
-    show_front(b"512 slots", &text, 1028);
-    show_front(b"513 slots", &text, 1030);
-    show_front(b"512 slots and a byte", &text, 1029);
+    let mut just_enough = [b'0'; 1028];
+    show_lines(b"512 slots", &mut just_enough);
+    let mut a_line_more = [b'0'; 1030];
+    show_lines(b"513 slots", &mut a_line_more);
+    let mut a_byte_more = [b'0'; 1029];
+    show_lines(b"512 slots and a byte", &mut a_byte_more);
 }
 
-// The same for the first bytes of a text.
-fn show_front(what: &[u8], text: &[u8], count: usize) {
-    if count <= text.len() {
-        show(what, &text[..count]);
-    }
+fn show_lines(what: &[u8], text: &mut [u8]) {
+    end_lines(text);
+    show(what, text);
 }
 
 // Ends a line after every other byte.

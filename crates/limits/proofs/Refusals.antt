@@ -16,6 +16,15 @@ pub granted-nothing {ℓ} : {A : Type ℓ} (refusal : ℕ) (result nothing : A) 
 granted-nothing zero result nothing wrong = absurd (omega arith)
 granted-nothing (suc refusal) result nothing wrong = refl
 
+-- what comes later counts only where the first refusal is none
+pub then-same : (first : ℕ) {later later′ : ℕ} → (first ≡ 0 → later ≡ later′) → first then later ≡ first then later′
+then-same zero same = same refl
+then-same (suc first) same = refl
+
+pub granted-same : {A : Type 0} (refusal : ℕ) {result result′ : A} (nothing : A) → (refusal ≡ 0 → result ≡ result′) → granted refusal result nothing ≡ granted refusal result′ nothing
+granted-same zero nothing same = same refl
+granted-same (suc refusal) nothing same = refl
+
 -- none of two refusals
 pub none-of-two : (first later : ℕ) → first then later ≡ 0 → (first ≡ 0) × (later ≡ 0)
 none-of-two zero later none = (refl, none)

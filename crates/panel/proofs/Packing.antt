@@ -17,7 +17,7 @@ use Rattle.histogram.specs.Errors.{greatestError}
 use Rattle.record.specs.Record.{slotsIn, bandIn, restIn, termsIn}
 use Rattle.record_check.specs.Checking.{slotRefusal, checkRefusal, kept, lowestBeyond, SlotRead, Checked}
 use Rattle.claims.specs.LeastBand.{LeastBand}
-use Rattle.build.specs.Building.{profileRefusal}
+use Rattle.build.specs.Building.{valuesRefusal}
 use Rattle.build.specs.LeastBand.{leastBandRefusal, LeastBandFound}
 use Rattle.panel.specs.Results.{packed, result, slotResult, againstTextRefusal, againstTextResult, leastBandOfTextRefusal, LeastBandOfText}
 use Rattle.panel.specs.Inner.{RightProfile}

@@ -18,9 +18,9 @@ use Rattle.histogram.specs.Terms.{paired, valid}
 use Rattle.histogram.specs.Errors.{greatestError}
 use Rattle.histogram.proofs.Powers.{padded-bound}
 use Rattle.record.specs.Record.{recordLength, recordBytes}
-use Rattle.record.specs.Answers.{synopsisRefusal, writingRefusal, RecordWritten}
+use Rattle.record.specs.Answers.{packingRefusal, writingRefusal, RecordWritten}
 use Rattle.claims.specs.Best.{Best}
-use Rattle.build.specs.Building.{profileRefusal, buildRefusal, Built, handedOver}
+use Rattle.build.specs.Building.{valuesRefusal, buildRefusal, Built, handedOver}
 use Rattle.panel.specs.Results.{packed, result, textToRecordRefusal, TextToRecord}
 use Rattle.panel.specs.Inner.{Fields, RightProfile, RecordBuilt}
 use Rattle.panel.proofs.Texts.{Held}
@@ -53,14 +53,16 @@ module _ {profile : List ℤ} {rest band : ℤ} (right : RightProfile profile re
   rest-right : beyond 20000 rest ≡ false
   rest-right = passed 1 (beyond 20000 rest) _ (slots-right .1) .0
 
+  pub at-most-512 : length profile ≤ 512
+  at-most-512 = slots-within (length profile) (slots-right .0) .few-slots
+
   -- building with room for 512 terms is not refused
   pub building-right : (places numbers : ℕ) → 512 ≤ places → 12288 ≤ numbers → buildRefusal profile rest band places numbers ≡ 0
   building-right places numbers room scratch =
-      let few = slots-within (length profile) (slots-right .0) .few-slots in
       rw (
         right .setpoints-right,
         right .band-right,
-        le-ltb places (padded (length profile)) (omega (arith, padded-bound few)),
+        le-ltb places (padded (length profile)) (omega (arith, padded-bound at-most-512)),
         le-ltb numbers 12288 scratch,
       )
 

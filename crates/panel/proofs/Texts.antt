@@ -19,7 +19,7 @@ use Rattle.decimal.specs.Answers.{numberOr}
 use Rattle.profile.specs.Text.{lineNumber, numberRefusal, lineRefusal, valueRefusal, bandRefusal, isEmpty, following, setpointsRefusal, setpointsRead, headRefusal, setpointsText, textRefusal, restOf, bandOf, setpointsOf}
 use Rattle.profile.specs.Answers.{TextRead}
 use Rattle.profile.proofs.Checks.{line-within}
-use Rattle.build.specs.Building.{profileRefusal}
+use Rattle.build.specs.Building.{valuesRefusal}
 use Rattle.build.proofs.Accepted.{band-accepted}
 use Rattle.panel.specs.Inner.{RightProfile}
 

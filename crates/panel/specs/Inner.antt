@@ -12,7 +12,7 @@ use Rattle.histogram.specs.declared.Term.{Term}
 use Rattle.histogram.specs.Errors.{greatestError}
 use Rattle.record.specs.Record.{recordLength, recordBytes}
 use Rattle.claims.specs.Best.{Best}
-use Rattle.build.specs.Building.{profileRefusal}
+use Rattle.build.specs.Building.{valuesRefusal}
 use Rattle.panel.specs.Results.{result}
 
 -- numbers that fit four fields
@@ -24,7 +24,7 @@ pub record Fields (refusal first second third : ℕ) : Type 0 where
 
 -- a profile that is not refused
 pub record RightProfile (profile : List ℤ) (rest band : ℤ) : Type 0 where
-  pub setpoints-right : profileRefusal profile rest ≡ 0
+  pub setpoints-right : valuesRefusal profile rest ≡ 0
   pub band-right : outsideBand band ≡ false
 
 -- the record of a best synopsis is written, or refused with 6

@@ -1,4 +1,5 @@
 pub mod Checks
+pub mod Decided
 pub mod Lines
 pub mod Setpoints
 pub mod Texts

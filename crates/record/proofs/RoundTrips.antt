@@ -27,7 +27,7 @@ use Rattle.histogram.specs.Terms.{valid}
 use Rattle.histogram.proofs.Ascent.{ValidFrom, first-above, first-below, first-within, rest-valid}
 use Rattle.histogram.proofs.Powers.{height-reaches, padded-bound}
 use Rattle.record.specs.Record.{headerBits, termBits, termsBits, recordBits, recordLength, recordBytes, versionIn, slotsIn, bandIn, restIn, countIn, firstTerm, termsFrom, termsIn, fillIn, wellFormed}
-use Rattle.record.specs.Answers.{synopsisRefusal, headerRefusal, recordRefusal}
+use Rattle.record.specs.Answers.{packingRefusal, headerRefusal, recordRefusal}
 use Rattle.record.proofs.Tests.{both-left, both-right}
 use Rattle.record.proofs.Pieces.{field-read, next-field, field-in-front, signed-in-front, zeros, number-of-zeros}
 
@@ -235,7 +235,7 @@ within-band (pos band) inside = ltb-false 40000 band inside
 within-band (negsuc below) inside = absurd (true≢false inside)
 
 -- "Writing a record and reading it gives the same terms and header"
-pub written-reads-back : (n : ℕ) (band rest : ℤ) (terms : List Term) → synopsisRefusal n band rest terms ≡ 0
+pub written-reads-back : (n : ℕ) (band rest : ℤ) (terms : List Term) → packingRefusal n band rest terms ≡ 0
     → (recordRefusal (recordBytes n (natAbs band) rest terms) ≡ 0) × ReadsAs (recordBytes n (natAbs band) rest terms) n (natAbs band) rest terms
 written-reads-back n band rest terms none =
     let four = passed 3 (outsideSlots n) _ none in

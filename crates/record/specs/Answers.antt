@@ -13,13 +13,13 @@ use Rattle.histogram.specs.Terms.{nodesOf, valuesOf, valid}
 use Rattle.record.specs.Record.{recordLength, recordBytes, slotsIn, bandIn, restIn, countIn, termsIn, wellFormed}
 
 -- what is wrong with a header and terms to be written: 4, 2, 3, 8
-abbrev pub synopsisRefusal : ℕ → ℤ → ℤ → List Term → ℕ
-synopsisRefusal n band rest terms =
+abbrev pub packingRefusal : ℕ → ℤ → ℤ → List Term → ℕ
+packingRefusal n band rest terms =
     4 when outsideSlots n then 2 when beyond 20000 rest then 3 when outsideBand band then 8 when not (valid n terms)
 
 -- "Writing: 4, 2, 3, 8, then 6 if shorter than the record"
 abbrev pub writingRefusal : ℕ → ℤ → ℤ → List Term → ℕ → ℕ
-writingRefusal n band rest terms places = synopsisRefusal n band rest terms then 6 when ltb places (recordLength (length terms))
+writingRefusal n band rest terms places = packingRefusal n band rest terms then 6 when ltb places (recordLength (length terms))
 
 -- the refusal, how many bytes were written, and what the destination holds before and after
 pub record RecordWritten (n : ℕ) (band rest : ℤ) (terms : List Term) (refusal count : ℕ) (before after : List ℕ) : Type 0 where

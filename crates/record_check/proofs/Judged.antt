@@ -15,7 +15,6 @@ use Rattle.histogram.specs.Tree.{padded}
 use Rattle.histogram.specs.Terms.{paired, valid, termOr}
 use Rattle.histogram.specs.Restored.{restored, restoredAt, restoredSlot, pathNodes}
 use Rattle.histogram.specs.Errors.{setpointOf, slotError}
-use Rattle.histogram.specs.Inner.{HandedDown}
 use Rattle.histogram.proofs.Ascent.{ValidFrom, first-within, rest-valid}
 use Rattle.histogram.proofs.Order.{below-or-not}
 use Rattle.histogram.proofs.Powers.{padded-bound}
@@ -41,7 +40,7 @@ restored-within rest terms (suc count) node proper near =
 
 module _ (profile : List ℤ) (band : ℕ) (rest : ℤ) (nodes : List ℕ) (values : List ℤ) (asked : Judgeable profile band rest nodes values)
     (first : ℕ) (first-is : first ≡ padded (length profile)) (after : List ℤ) (room : 2 * first ≤ length after)
-    (handed : HandedDown rest (paired nodes values) (2 * first) after) where
+    (at-node : (node : ℕ) → node < 2 * first → getD after node (pos 0) ≡ restoredAt rest (paired nodes values) node) where
   abbrev part : List ℤ
   part = take (2 * first - first) (drop first after)
 
@@ -53,7 +52,7 @@ module _ (profile : List ℤ) (band : ℕ) (rest : ℤ) (nodes : List ℕ) (valu
   slot-value slot below =
       getD-take (2 * first - first) (drop first after) slot (pos 0) (omega arith)
       ∙ getD-drop first after slot (pos 0)
-      ∙ handed .at-node (first + slot) (omega arith)
+      ∙ at-node (first + slot) (omega arith)
       ∙ ap (λ (m : ℕ). restoredAt rest (paired nodes values) (m + slot)) first-is
 
   part-within : (slot : ℕ) → natAbs (getD part slot (pos 0)) ≤ 20000

@@ -57,12 +57,19 @@ module _ (bytes : List ℕ) (refusal slots : ℕ) (band rest : ℤ) (count : ℕ
         rw (Accepted.room-nodes bytes refusal slots band rest count nodes nodes′ values values′ read right, Accepted.room-values bytes refusal slots band rest count nodes nodes′ values values′ read right)
         (paired-again (termsIn bytes))
 
+    -- and not refused
+    pub terms-right : synopsisRefusal slots rest (paired (take count nodes′) (take count values′)) ≡ 0
+    terms-right =
+        let is-sound = sound bytes (Accepted.record-right bytes refusal slots band rest count nodes nodes′ values values′ read right) in
+        let slots-are = Accepted.slots-are bytes refusal slots band rest count nodes nodes′ values values′ read right in
+        let rest-is = Accepted.rest-is bytes refusal slots band rest count nodes nodes′ values values′ read right in
+        rw (room-terms, slots-are, rest-is, slots-inside bytes, is-sound .rest-near, is-sound .terms-valid)
+
     pub restored-slot : (outcome : ℕ) (setpoint : ℤ) → SlotRestored slots rest (paired (take count nodes′) (take count values′)) slot outcome setpoint → SlotRead bytes slot outcome setpoint
     restored-slot outcome setpoint restored =
         let record-right = Accepted.record-right bytes refusal slots band rest count nodes nodes′ values values′ read right in
-        let is-sound = sound bytes record-right in
         let slots-are = Accepted.slots-are bytes refusal slots band rest count nodes nodes′ values values′ read right in
         let rest-is = Accepted.rest-is bytes refusal slots band rest count nodes nodes′ values values′ read right in
         let own = rw (room-terms, slots-are, rest-is) at restored in
-        let not-refused : synopsisRefusal (slotsIn bytes) (restIn bytes) (termsIn bytes) ≡ 0 = rw (slots-inside bytes, is-sound .rest-near, is-sound .terms-valid) in
+        let not-refused = rw (room-terms, slots-are, rest-is) at terms-right in
         record { refusal-is = own .refusal-is ∙ rw (not-refused, record-right); setpoint-is = own .setpoint-is }

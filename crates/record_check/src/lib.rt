@@ -1,7 +1,7 @@
 // One slot of a record, and the check of setpoints against a record.
 use histogram::restore::SlotAnswer;
 use histogram::restore::hand_down;
-use histogram::restore::restore_slot;
+use histogram::restore::restore_checked_slot;
 use histogram::terms::padded_length;
 use record_read::read_into_room;
 ghost use mathlib.Core.Path.{_≡_};
@@ -25,7 +25,7 @@ pub fn read_slot(bytes: &[u8], slot: usize) -> SlotAnswer
         };
     }
     let count = header.count;
-    restore_slot(
+    restore_checked_slot(
         header.slots,
         header.rest,
         &nodes[..count],

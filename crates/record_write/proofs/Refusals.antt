@@ -16,11 +16,11 @@ use Rattle.histogram.specs.Tree.{padded}
 use Rattle.histogram.specs.Terms.{valid}
 use Rattle.histogram.proofs.Ascent.{ValidFrom}
 use Rattle.histogram.proofs.Powers.{height-reaches, padded-bound}
-use Rattle.record.specs.Answers.{synopsisRefusal}
+use Rattle.record.specs.Answers.{packingRefusal}
 use Rattle.record.proofs.RoundTrips.{valid-few, within-band}
 
 pub record Accepted (n : ℕ) (band rest : ℤ) (terms : List Term) : Type 0 where
-  pub not-refused : synopsisRefusal n band rest terms ≡ 0
+  pub not-refused : packingRefusal n band rest terms ≡ 0
   pub slots : SlotsWithin n
   pub band-from-zero : T (nonNeg band)
   pub band-within : natAbs band ≤ 40000
@@ -34,7 +34,7 @@ from-zero : (band : ℤ) → outsideBand band ≡ false → T (nonNeg band)
 from-zero (pos band) inside = tt
 from-zero (negsuc below) inside = subst T inside tt
 
-pub accepted : {refusal : ℕ} (n : ℕ) (band rest : ℤ) (terms : List Term) → refusal ≡ synopsisRefusal n band rest terms → refusal ≤ 0 → Accepted n band rest terms
+pub accepted : {refusal : ℕ} (n : ℕ) (band rest : ℤ) (terms : List Term) → refusal ≡ packingRefusal n band rest terms → refusal ≤ 0 → Accepted n band rest terms
 accepted {refusal} n band rest terms answer zero-at-most =
     let is-zero : refusal ≡ 0 = omega arith in
     let none = sym answer ∙ is-zero in

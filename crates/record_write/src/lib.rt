@@ -12,7 +12,7 @@ ghost use lib.ListN.{length, drop};
 ghost use Rattle.bits.specs.Bits.{bitsOf, replacedAt};
 ghost use Rattle.histogram.specs.Terms.{paired};
 ghost use Rattle.record.specs.Record.{headerBits, termsBits, recordBytes};
-ghost use Rattle.record.specs.Answers.{synopsisRefusal, RecordWritten};
+ghost use Rattle.record.specs.Answers.{packingRefusal, RecordWritten};
 ghost use Rattle.record_write.specs.Inner.{RecordFits, HeaderFits, TermsFit, TermFits, TermPut, FillFits, filled};
 
 // The refusal, or 0 and how many bytes were written.
@@ -64,7 +64,7 @@ pub fn write_record(
 // The number that refuses a header and terms; 0 for none.
 fn refuse(slots: usize, band: i32, rest: i32, nodes: &[u16], values: &[i16]) -> u8
     requires { ⌜ length (now nodes) ≡ length (now values) ⌝ }
-    ensures { λ r. ⌜ r ≡ synopsisRefusal slots band rest (paired (now (nodes .entry)) (now (values .entry))) ⌝ }
+    ensures { λ r. ⌜ r ≡ packingRefusal slots band rest (paired (now (nodes .entry)) (now (values .entry))) ⌝ }
 {
     if limits::is_outside_slots(slots) {
         return 4;

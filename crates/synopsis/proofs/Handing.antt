@@ -8,35 +8,36 @@ use Rattle.limits.specs.Answers.{laid}
 use Rattle.limits.proofs.Laying.{front-of, past-front}
 use Rattle.histogram.specs.declared.Term.{Term}
 use Rattle.record_read.specs.declared.HeaderAnswer.{HeaderAnswer}
-use Rattle.build.specs.Building.{Built, handedOver}
+use Rattle.build.specs.Building.{Built}
 use Rattle.build.specs.declared.BuildAnswer.{BuildAnswer}
 use Rattle.synopsis.specs.Answers.{TermsRead, TermsHanded}
-use Rattle.synopsis.specs.Inner.{ReadInRoom, BuiltInRoom}
+use Rattle.synopsis.specs.declared.Parts.{Parts}
+use Rattle.synopsis.specs.Inner.{termsOf, ReadInRoom, BuiltInRoom}
 
 -- building's answer, by the slice that holds the terms
-module _ (profile : List ℤ) (rest band : ℤ) (answer : BuildAnswer) (nodes : List ℕ) (values scratch scratch′ : List ℤ) (terms terms′ : List Term)
-    (made : BuiltInRoom profile rest band (length terms) answer nodes values scratch scratch′) (laid-is : terms′ ≡ laid (handedOver (answer .count) nodes values) terms) where
-  counted : length (handedOver (answer .count) nodes values) ≡ answer .count
+module _ (profile : List ℤ) (rest band : ℤ) (answer : BuildAnswer) (parts : Parts) (scratch scratch′ : List ℤ) (terms terms′ : List Term)
+    (made : BuiltInRoom profile rest band (length terms) answer parts scratch scratch′) (laid-is : terms′ ≡ laid (termsOf parts) terms) where
+  counted : length (termsOf parts) ≡ answer .count
   counted = sym (made .built .count-is)
 
-  in-front : take (answer .count) terms′ ≡ handedOver (answer .count) nodes values
-  in-front = ap (take (answer .count)) laid-is ∙ front-of (handedOver (answer .count) nodes values) terms (answer .count) counted
+  in-front : take (answer .count) terms′ ≡ termsOf parts
+  in-front = ap (take (answer .count)) laid-is ∙ front-of (termsOf parts) terms (answer .count) counted
 
   pub handed-over : Built profile rest band (length terms) (length scratch) (answer .refusal) (answer .count) (answer .error) (take (answer .count) terms′)
       × TermsHanded (answer .refusal) (answer .count) terms terms′ scratch scratch′
   handed-over = (
     subst (Built profile rest band (length terms) (length scratch) (answer .refusal) (answer .count) (answer .error)) (sym in-front) (made .built),
     record {
-      past = ap (drop (answer .count)) laid-is ∙ past-front (handedOver (answer .count) nodes values) terms (answer .count) counted;
+      past = ap (drop (answer .count)) laid-is ∙ past-front (termsOf parts) terms (answer .count) counted;
       scratch-refused = made .scratch-refused;
     },
   )
 
 -- a record's terms, in the slice
-pub read-over : (bytes : List ℕ) (answer : HeaderAnswer) (nodes : List ℕ) (values : List ℤ) (terms terms′ : List Term)
-    → ReadInRoom bytes (length terms) answer nodes values → terms′ ≡ laid (handedOver (answer .count) nodes values) terms
+pub read-over : (bytes : List ℕ) (answer : HeaderAnswer) (parts : Parts) (terms terms′ : List Term)
+    → ReadInRoom bytes (length terms) answer parts → terms′ ≡ laid (termsOf parts) terms
     → TermsRead bytes (answer .refusal) (answer .slots) (answer .band) (answer .rest) (answer .count) terms terms′
-read-over bytes answer nodes values terms terms′ read laid-is = record {
+read-over bytes answer parts terms terms′ read laid-is = record {
   refusal-is = read .refusal-is;
   header = read .header;
   terms-are = laid-is ∙ ap (λ (l : List Term). laid l terms) (read .terms-are);

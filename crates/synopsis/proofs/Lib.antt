@@ -1,8 +1,9 @@
+pub mod Answering
 pub mod Callees
 pub mod Counting
 pub mod Handing
-pub mod Lending
+pub mod Many
 pub mod Rooms
-pub mod StandIn
+pub mod Rows
 pub mod Storing
 pub mod Walk

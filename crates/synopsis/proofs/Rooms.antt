@@ -1,4 +1,4 @@
--- What is read or built into room for 1,023 terms is what is wanted for a destination of any number of places.
+-- What is read or built into room for 1,024 terms is what is wanted for a destination of any number of places.
 use mathlib.Core.Path.{_≡_, refl, sym, ap, ap₂, _∙_}
 use mathlib.Core.Bool.{Bool, true, false}
 use mathlib.Core.List.{List, [], _∷_, _++_}
@@ -9,6 +9,7 @@ use lib.IntN.{ℤ, pos}
 use lib.ListN.{length, take, length-append, length-map}
 use lib.Seq.{take-all, take-append-le, length-take-le}
 use borrow.Author.Tests.{lt-ltb, le-ltb, ltb-true, ltb-false}
+use Rattle.limits.specs.Answers.{laid}
 use Rattle.limits.specs.Limits.{outsideSlots}
 use Rattle.limits.proofs.Laying.{front-of}
 use Rattle.limits.proofs.Refusals.{slots-within, first-counts, granted-nothing}
@@ -26,20 +27,20 @@ use Rattle.record_read.proofs.Frames.{no-header}
 use Rattle.build.specs.Building.{buildRefusal, Built, handedOver}
 use Rattle.build.specs.declared.BuildAnswer.{BuildAnswer}
 use Rattle.synopsis.specs.declared.Parts.{Parts}
-use Rattle.synopsis.specs.Inner.{FitApart, Apart, roomFor, termsOf, standIn, Within, PartsMade, PartsOf, forPlaces, ReadInRoom, BuiltInRoom}
+use Rattle.synopsis.specs.Inner.{Within, PartsOf, forPlaces, ReadInRoom, BuiltInRoom}
 
--- 1,023 places are as good as more where at most 512 are wanted
-enough-places : (places wanted : ℕ) → wanted ≤ 512 → ltb (min places 1023) wanted ≡ ltb places wanted
+-- 1,024 places are as good as more where at most 512 are wanted
+enough-places : (places wanted : ℕ) → wanted ≤ 512 → ltb (min places 1024) wanted ≡ ltb places wanted
 enough-places places wanted few = by-test (ltb places wanted) refl
   where
-    by-test : (short : Bool) → ltb places wanted ≡ short → ltb (min places 1023) wanted ≡ short
-    by-test true is = lt-ltb (min places 1023) wanted (omega (arith, ltb-true places wanted is))
-    by-test false is = le-ltb (min places 1023) wanted (omega (arith, ltb-false places wanted is))
+    by-test : (short : Bool) → ltb places wanted ≡ short → ltb (min places 1024) wanted ≡ short
+    by-test true is = lt-ltb (min places 1024) wanted (omega (arith, ltb-true places wanted is))
+    by-test false is = le-ltb (min places 1024) wanted (omega (arith, ltb-false places wanted is))
 
-same-refusal : (profile : List ℤ) (rest band : ℤ) (places numbers : ℕ) → buildRefusal profile rest band (min places 1023) numbers ≡ buildRefusal profile rest band places numbers
+same-refusal : (profile : List ℤ) (rest band : ℤ) (places numbers : ℕ) → buildRefusal profile rest band (min places 1024) numbers ≡ buildRefusal profile rest band places numbers
 same-refusal profile rest band places numbers = by-slots (outsideSlots (length profile)) refl
   where
-    by-slots : (outside : Bool) → outsideSlots (length profile) ≡ outside → buildRefusal profile rest band (min places 1023) numbers ≡ buildRefusal profile rest band places numbers
+    by-slots : (outside : Bool) → outsideSlots (length profile) ≡ outside → buildRefusal profile rest band (min places 1024) numbers ≡ buildRefusal profile rest band places numbers
     by-slots true is = rw is refl
     by-slots false is = rw (enough-places places (padded (length profile)) (padded-bound (slots-within (length profile) is .few-slots))) refl
 
@@ -70,11 +71,11 @@ pub values-there : (parts : Parts) → Within parts → length (take (parts .cou
 values-there parts within = length-take-le (parts .count) (parts .values) (within .of-values)
 
 -- the part of a room for that many places
-pub room-part : {A : Type 0} (limit places : ℕ) (room : List A) → limit ≡ min places 1023 → length room ≡ 1023 → length (take limit room) ≡ limit
+pub room-part : {A : Type 0} (limit places : ℕ) (room : List A) → limit ≡ min places 1024 → length room ≡ 1024 → length (take limit room) ≡ limit
 room-part limit places room limit-is long = length-take-le limit room (omega arith)
 
 -- terms that were built into the front of the room
-module _ (profile : List ℤ) (rest band : ℤ) (places limit : ℕ) (limit-is : limit ≡ min places 1023) (answer : BuildAnswer) (front nodes : List ℕ) (front-values values scratch scratch′ : List ℤ)
+module _ (profile : List ℤ) (rest band : ℤ) (places limit : ℕ) (limit-is : limit ≡ min places 1024) (answer : BuildAnswer) (front nodes : List ℕ) (front-values values scratch scratch′ : List ℤ)
     (built : Built profile rest band limit (length scratch) (answer .refusal) (answer .count) (answer .error) (handedOver (answer .count) front front-values))
     (front-long : length front ≡ limit) (front-values-long : length front-values ≡ limit) (left : 0 < answer .refusal → scratch′ ≡ scratch) where
   few-nodes : answer .count ≤ length front
@@ -86,7 +87,7 @@ module _ (profile : List ℤ) (rest band : ℤ) (places limit : ℕ) (limit-is :
   same-terms : handedOver (answer .count) (front ++ nodes) (front-values ++ values) ≡ handedOver (answer .count) front front-values
   same-terms = ap₂ paired (take-append-le (answer .count) front nodes few-nodes) (take-append-le (answer .count) front-values values few-values)
 
-  pub built-in-room : BuiltInRoom profile rest band places answer (front ++ nodes) (front-values ++ values) scratch scratch′
+  pub built-in-room : BuiltInRoom profile rest band places answer (record { count = answer .count; nodes = front ++ nodes; values = front-values ++ values }) scratch scratch′
   built-in-room = record {
     built = rw same-terms record {
       refusal-is = built .refusal-is ∙ ap (λ (k : ℕ). buildRefusal profile rest band k (length scratch)) limit-is ∙ same-refusal profile rest band places (length scratch);
@@ -95,9 +96,10 @@ module _ (profile : List ℤ) (rest band : ℤ) (places limit : ℕ) (limit-is :
       count-is = built .count-is;
       error-is = built .error-is;
     };
-    of-nodes = simp length-append (omega (arith, few-nodes));
-    of-values = simp length-append (omega (arith, few-values));
-    fits = omega (arith, few-nodes, front-long, limit-is);
+    fit = record {
+      within = record { of-nodes = simp length-append (omega (arith, few-nodes)); of-values = simp length-append (omega (arith, few-values)) };
+      in-terms = omega (arith, few-nodes, front-long, limit-is);
+    };
     scratch-refused = left;
   }
 
@@ -105,7 +107,7 @@ module _ (profile : List ℤ) (rest band : ℤ) (places limit : ℕ) (limit-is :
 module _ (bytes : List ℕ) (places : ℕ) (header : HeaderAnswer) (nodes nodes′ : List ℕ) (values values′ : List ℤ)
     (read : RoomRead bytes (header .refusal) (header .slots) (header .band) (header .rest) (header .count) nodes nodes′ values values′) where
   abbrev Answered : HeaderAnswer → Type 0
-  Answered answer = ReadInRoom bytes places answer nodes′ values′
+  Answered answer = ReadInRoom bytes places answer (record { count = answer .count; nodes = nodes′; values = values′ })
 
   -- a header that is not refused
   module _ (right : header .refusal ≤ 0) where
@@ -124,9 +126,7 @@ module _ (bytes : List ℕ) (places : ℕ) (header : HeaderAnswer) (nodes nodes�
       refusal-is = rw (record-right, lt-ltb places (countIn bytes) (omega (arith, count-is, short)));
       header = no-header bytes 6 (omega arith);
       terms-are = refl;
-      of-nodes = omega arith;
-      of-values = omega arith;
-      fits = omega arith;
+      fit = record { within = record { of-nodes = omega arith; of-values = omega arith }; in-terms = omega arith };
     }
 
     all-read : header .count ≤ places → Answered header
@@ -134,9 +134,13 @@ module _ (bytes : List ℕ) (places : ℕ) (header : HeaderAnswer) (nodes nodes�
       refusal-is = none ∙ rw (record-right, le-ltb places (countIn bytes) (omega (arith, count-is, long)));
       header = read .header;
       terms-are = rw none (ap₂ paired (accepted.room-nodes bytes _ _ _ _ _ nodes nodes′ values values′ read right) (accepted.room-values bytes _ _ _ _ _ nodes nodes′ values values′ read right) ∙ paired-again (termsIn bytes));
-      of-nodes = accepted.in-nodes bytes _ _ _ _ _ nodes nodes′ values values′ read right;
-      of-values = accepted.in-values bytes _ _ _ _ _ nodes nodes′ values values′ read right;
-      fits = long;
+      fit = record {
+        within = record {
+          of-nodes = accepted.in-nodes bytes _ _ _ _ _ nodes nodes′ values values′ read right;
+          of-values = accepted.in-values bytes _ _ _ _ _ nodes nodes′ values values′ read right;
+        };
+        in-terms = long;
+      };
     }
 
   -- one that is refused has no term
@@ -149,9 +153,7 @@ module _ (bytes : List ℕ) (places : ℕ) (header : HeaderAnswer) (nodes nodes�
     refusal-is = sym (rw (← read .refusal-is) (first-counts (header .refusal) _ wrong));
     header = read .header;
     terms-are = rw (no-count wrong, granted-nothing (header .refusal) (termsIn bytes) [] wrong);
-    of-nodes = omega (arith, no-count wrong);
-    of-values = omega (arith, no-count wrong);
-    fits = omega (arith, no-count wrong);
+    fit = record { within = record { of-nodes = omega (arith, no-count wrong); of-values = omega (arith, no-count wrong) }; in-terms = omega (arith, no-count wrong) };
   }
 
   pub read-in-room : Answered (forPlaces places header)
@@ -163,40 +165,30 @@ module _ (bytes : List ℕ) (places : ℕ) (header : HeaderAnswer) (nodes nodes�
       by-test false is zero none-is = rw is (all-read (omega (arith, none-is)) (ltb-false places (header .count) is))
       by-test false is (suc refusal) some = rw is (refused (omega (arith, some)))
 
--- the room takes what goes into it
-pub apart-fits : (terms : List Term) (count : ℕ) (nodes : List ℕ) (values : List ℤ) → count ≡ roomFor (length terms) → length nodes ≡ 1023 → length values ≡ 1023 → FitApart count terms nodes values
-apart-fits terms count nodes values count-is nodes-long values-long = by-many (ltb 1023 (length terms)) refl
-  where
-    by-many : (many : Bool) → ltb 1023 (length terms) ≡ many → FitApart count terms nodes values
-    by-many true is =
-        let none : count ≡ 0 = count-is ∙ rw is in
-        record { of-terms = omega arith; in-nodes = omega arith; in-values = omega arith }
-    by-many false is =
-        let all : count ≡ length terms = count-is ∙ rw is in
-        let few : length terms ≤ 1023 = ltb-false 1023 (length terms) is in
-        record { of-terms = omega arith; in-nodes = omega arith; in-values = omega arith }
+-- the parts of a list of terms that was taken apart, or of its first 1,024
+module _ (terms : List Term) (count : ℕ) (count-is : count ≡ min (length terms) 1024) where
+  as-many : length (take count terms) ≡ count
+  as-many = length-take-le count terms (omega arith)
 
--- the parts of a list of terms that was taken apart
-module _ (terms : List Term) (count : ℕ) (nodes nodes′ : List ℕ) (values values′ : List ℤ) (parts : Parts)
-    (count-is : count ≡ roomFor (length terms)) (apart : Apart count terms nodes nodes′ values values′) (made : PartsMade (length terms) nodes′ values′ parts) where
-  module _ (few : ltb 1023 (length terms) ≡ false) where
-    all-taken : take count terms ≡ terms
-    all-taken =
-        let all : count ≡ length terms = count-is ∙ rw few in
-        take-all count terms (omega arith)
-
-    nodes-in-front : take (length terms) nodes′ ≡ nodesOf terms
-    nodes-in-front = rw (apart .nodes-are, all-taken) (front-of (nodesOf terms) nodes (length terms) (length-map terms _))
-
-    values-in-front : take (length terms) values′ ≡ valuesOf terms
-    values-in-front = rw (apart .values-are, all-taken) (front-of (valuesOf terms) values (length terms) (length-map terms _))
-
-    all-there : termsOf parts ≡ terms
-    all-there = made .all (ltb-false 1023 (length terms) few) ∙ ap₂ paired nodes-in-front values-in-front ∙ paired-again terms
-
-  pub parts-of-terms : PartsOf terms parts
-  parts-of-terms = record { within = made .within; terms-are = by-many (ltb 1023 (length terms)) refl }
+  first-terms : take count terms ≡ take 1024 terms
+  first-terms = by-many (ltb 1024 (length terms)) refl
     where
-      by-many : (many : Bool) → ltb 1023 (length terms) ≡ many → termsOf parts ≡ standIn terms
-      by-many true is = rw is (made .none (ltb-true 1023 (length terms) is))
-      by-many false is = rw is (all-there is)
+      by-many : (many : Bool) → ltb 1024 (length terms) ≡ many → take count terms ≡ take 1024 terms
+      by-many true is =
+          let full : count ≡ 1024 = omega (arith, ltb-true 1024 (length terms) is) in
+          ap (λ (k : ℕ). take k terms) full
+      by-many false is = take-all count terms (omega (arith, ltb-false 1024 (length terms) is)) ∙ sym (take-all 1024 terms (ltb-false 1024 (length terms) is))
+
+  module _ (nodes nodes′ : List ℕ) (values values′ : List ℤ) (nodes-are : nodes′ ≡ laid (nodesOf (take count terms)) nodes) (values-are : values′ ≡ laid (valuesOf (take count terms)) values)
+      (nodes-long : length nodes′ ≡ 1024) (values-long : length values′ ≡ 1024) where
+    nodes-in-front : take count nodes′ ≡ nodesOf (take count terms)
+    nodes-in-front = rw nodes-are (front-of (nodesOf (take count terms)) nodes count (length-map (take count terms) _ ∙ as-many))
+
+    values-in-front : take count values′ ≡ valuesOf (take count terms)
+    values-in-front = rw values-are (front-of (valuesOf (take count terms)) values count (length-map (take count terms) _ ∙ as-many))
+
+    pub parts-of-terms : PartsOf terms (record { count = count; nodes = nodes′; values = values′ })
+    parts-of-terms = record {
+      within = record { of-nodes = omega arith; of-values = omega arith };
+      terms-are = ap₂ paired nodes-in-front values-in-front ∙ paired-again (take count terms) ∙ first-terms;
+    }

@@ -10,15 +10,14 @@ ghost use mathlib.Core.Path.{_≡_};
 ghost use Prim.Native.Nat.{_<_};
 ghost use lib.ListN.{length, set, take};
 ghost use Rattle.limits.specs.Answers.{laid};
-ghost use Rattle.histogram.specs.Terms.{paired};
 ghost use Rattle.histogram.specs.Restoring.{SlotRestored, ProfileRestored};
 ghost use Rattle.record.specs.Answers.{RecordWritten};
 ghost use Rattle.build.specs.Building.{Built};
 ghost use Rattle.synopsis.specs.Answers.{TermsRead, TermsHanded};
-ghost use Rattle.synopsis.specs.Inner.{termAt, FitApart, Apart, FitTogether, roomFor, Within, PartsMade, PartsOf, termsOf, BuiltInRoom, forPlaces, ReadInRoom};
+ghost use Rattle.synopsis.specs.Inner.{termAt, Within, PartsOf, FitTogether, termsOf, BuiltInRoom, forPlaces, ReadInRoom};
 
 // One term, copied out of a slice.
-pub fn term_out(terms: &[Term], place: usize) -> Term
+fn term_out(terms: &[Term], place: usize) -> Term
     requires { ⌜ place < length (now terms) ⌝ }
     ensures { λ r. ⌜ r ≡ termAt (now (terms .entry)) place ⌝ }
 {
@@ -26,93 +25,45 @@ pub fn term_out(terms: &[Term], place: usize) -> Term
 }
 
 // One term, copied into a slice.
-pub fn term_in(terms: &mut [Term], place: usize, term: Term)
+fn term_in(terms: &mut [Term], place: usize, term: Term)
     requires { ⌜ place < length (now terms) ⌝ }
     ensures { λ _. ⌜ now (terms .exit) ≡ set (now (terms .entry)) place term ⌝ }
 {
     terms[place] = term;
 }
 
-// Lays the nodes and the values of the first `count` terms over the fronts of two slices.
-fn take_apart(terms: &[Term], count: usize, nodes: &mut [u16], values: &mut [i16])
-    requires { ⌜ FitApart count (now terms) (now nodes) (now values) ⌝ }
-    ensures { λ _. ⌜ Apart count (now (terms .entry)) (now (nodes .entry)) (now (nodes .exit)) (now (values .entry)) (now (values .exit)) ⌝ }
+// Terms taken apart, in room for one more than a valid list can have: the first `count` nodes and values.
+struct Parts {
+    pub count: usize,
+    pub nodes: [u16; 1024],
+    pub values: [i16; 1024],
+}
+
+// Room, with no term in it.
+fn empty_room() -> Parts
+    ensures { λ r. ⌜ r .count ≡ 0 ⌝ }
 {
+    Parts {
+        count: 0,
+        nodes: [0u16; 1024],
+        values: [0i16; 1024],
+    }
+}
+
+// Takes a list of terms apart, or its first 1,024: more than 1,023 are valid nowhere.
+fn take_apart(terms: &[Term]) -> Parts
+    ensures { λ r. ⌜ PartsOf (now (terms .entry)) r ⌝ }
+{
+    let count = smaller(terms.len(), 1024);
+    let room = empty_room();
+    let mut nodes = room.nodes;
+    let mut values = room.values;
     let mut i: usize = 0;
     while i < count {
-        let term = terms[i];
+        let term = term_out(terms, i);
         nodes[i] = term.node;
         values[i] = term.value;
         i += 1;
-    }
-}
-
-// Lays the terms of the first `count` nodes and values over the front of a slice of terms.
-fn put_together(nodes: &[u16], values: &[i16], count: usize, terms: &mut [Term])
-    requires { ⌜ FitTogether count (now nodes) (now values) (now terms) ⌝ }
-    ensures { λ _. ⌜ now (terms .exit) ≡ laid (paired (take count (now (nodes .entry))) (take count (now (values .entry)))) (now (terms .entry)) ⌝ }
-{
-    let mut i: usize = 0;
-    while i < count {
-        terms[i] = Term {
-            node: nodes[i],
-            value: values[i],
-        };
-        i += 1;
-    }
-}
-
-// The same, from room.
-fn hand_over(count: usize, nodes: [u16; 1023], values: [i16; 1023], terms: &mut [Term])
-    requires { ⌜ FitTogether count nodes values (now terms) ⌝ }
-    ensures { λ _. ⌜ now (terms .exit) ≡ laid (paired (take count nodes) (take count values)) (now (terms .entry)) ⌝ }
-{
-    put_together(&nodes, &values, count, terms);
-}
-
-// Terms taken apart, in room for all that a valid list can have: the first `count` nodes and values.
-struct Parts {
-    pub count: usize,
-    pub nodes: [u16; 1023],
-    pub values: [i16; 1023],
-}
-
-// How many of that many terms go into the room: all, or none where it is too small.
-fn within_room(count: usize) -> usize
-    ensures { λ r. ⌜ r ≡ roomFor count ⌝ }
-{
-    if 1023 < count {
-        return 0;
-    }
-    count
-}
-
-// Room for the nodes of all terms that a valid list can have.
-fn room_of_nodes() -> [u16; 1023]
-    ensures { λ r. ⌜ length r ≡ 1023 ⌝ }
-{
-    [0u16; 1023]
-}
-
-// Room for their values.
-fn room_of_values() -> [i16; 1023]
-    ensures { λ r. ⌜ length r ≡ 1023 ⌝ }
-{
-    [0i16; 1023]
-}
-
-// The parts of that many terms, whose nodes and values went into the room.
-// More terms than it can take are valid nowhere, and one term at node 0, which is valid nowhere, stands in for them.
-fn made_parts(count: usize, nodes: [u16; 1023], values: [i16; 1023]) -> Parts
-    requires { ⌜ (length nodes ≡ 1023) × (length values ≡ 1023) ⌝ }
-    ensures { λ r. ⌜ PartsMade count nodes values r ⌝ }
-{
-    if 1023 < count {
-        return Parts {
-            count: 1,
-            nodes: [0u16; 1023],
-            values: [0i16; 1023],
-        };
     }
     Parts {
         count: count,
@@ -121,22 +72,33 @@ fn made_parts(count: usize, nodes: [u16; 1023], values: [i16; 1023]) -> Parts
     }
 }
 
-// The parts of a list of terms.
-fn parts_of(terms: &[Term]) -> Parts
-    ensures { λ r. ⌜ PartsOf (now (terms .entry)) r ⌝ }
+// Puts terms together, over the front of a slice.
+fn put_together(parts: Parts, terms: &mut [Term])
+    requires { ⌜ FitTogether parts (length (now terms)) ⌝ }
+    ensures { λ _. ⌜ now (terms .exit) ≡ laid (termsOf parts) (now (terms .entry)) ⌝ }
 {
-    let count = within_room(terms.len());
-    let mut nodes = room_of_nodes();
-    let mut values = room_of_values();
-    take_apart(terms, count, &mut nodes, &mut values);
-    made_parts(terms.len(), nodes, values)
+    let count = parts.count;
+    let nodes = parts.nodes;
+    let values = parts.values;
+    let mut i: usize = 0;
+    while i < count {
+        term_in(
+            terms,
+            i,
+            Term {
+                node: nodes[i],
+                value: values[i],
+            },
+        );
+        i += 1;
+    }
 }
 
 // The setpoint restored in one slot of a profile of `slots` slots.
 pub fn restore_slot(slots: usize, rest: i32, terms: &[Term], slot: usize) -> SlotAnswer
     ensures { λ r. ⌜ SlotRestored slots rest (now (terms .entry)) slot (r .refusal) (r .setpoint) ⌝ }
 {
-    let parts = parts_of(terms);
+    let parts = take_apart(terms);
     restore_slot_of_parts(slots, rest, parts, slot)
 }
 
@@ -155,7 +117,7 @@ fn restore_slot_of_parts(slots: usize, rest: i32, parts: Parts, slot: usize) -> 
 pub fn restore_profile(slots: usize, rest: i32, terms: &[Term], setpoints: &mut [i16]) -> u8
     ensures { λ r. ⌜ ProfileRestored slots rest (now (terms .entry)) r (now (setpoints .entry)) (now (setpoints .exit)) ⌝ }
 {
-    let parts = parts_of(terms);
+    let parts = take_apart(terms);
     restore_profile_of_parts(slots, rest, parts, setpoints)
 }
 
@@ -180,7 +142,7 @@ pub fn write_record(
 ) -> WriteAnswer
     ensures { λ r. ⌜ RecordWritten slots band rest (now (terms .entry)) (r .refusal) (r .count) (now (destination .entry)) (now (destination .exit)) ⌝ }
 {
-    let parts = parts_of(terms);
+    let parts = take_apart(terms);
     write_record_of_parts(slots, band, rest, parts, destination)
 }
 
@@ -213,29 +175,31 @@ pub fn read_record(bytes: &[u8], terms: &mut [Term]) -> HeaderAnswer
     ensures { λ r. ⌜ TermsRead (now (bytes .entry)) (r .refusal) (r .slots) (r .band) (r .rest) (r .count) (now (terms .entry)) (now (terms .exit)) ⌝ }
 {
     let read = read_in_room(bytes, terms.len());
-    hand_over(read.answer.count, read.nodes, read.values, terms);
+    put_together(read.parts, terms);
     read.answer
 }
 
-// What reading has to hand over: the answer, and the first nodes and values.
+// A record that was read: the answer, and the terms' parts.
 struct ReadParts {
     pub answer: HeaderAnswer,
-    pub nodes: [u16; 1023],
-    pub values: [i16; 1023],
+    pub parts: Parts,
 }
 
 // Reads a record for a destination of that many places.
 fn read_in_room(bytes: &[u8], places: usize) -> ReadParts
-    ensures { λ r. ⌜ ReadInRoom (now (bytes .entry)) places (r .answer) (r .nodes) (r .values) ⌝ }
+    ensures { λ r. ⌜ ReadInRoom (now (bytes .entry)) places (r .answer) (r .parts) ⌝ }
 {
-    let mut nodes = room_of_nodes();
-    let mut values = room_of_values();
+    let mut nodes = [0u16; 1024];
+    let mut values = [0i16; 1024];
     let header = record_read::read_into_room(bytes, &mut nodes, &mut values);
     let answer = for_places(places, header);
     ReadParts {
         answer: answer,
-        nodes: nodes,
-        values: values,
+        parts: Parts {
+            count: answer.count,
+            nodes: nodes,
+            values: values,
+        },
     }
 }
 
@@ -267,15 +231,14 @@ pub fn build(
         × TermsHanded (r .refusal) (r .count) (now (terms .entry)) (now (terms .exit)) (now (scratch .entry)) (now (scratch .exit)) ⌝ }
 {
     let built = build_in_room(setpoints, rest, band, terms.len(), scratch);
-    hand_over(built.answer.count, built.nodes, built.values, terms);
+    put_together(built.parts, terms);
     built.answer
 }
 
-// What building has to hand over: the answer, and the first nodes and values.
+// A synopsis that was built: the answer, and the terms' parts.
 struct BuiltParts {
     pub answer: BuildAnswer,
-    pub nodes: [u16; 1023],
-    pub values: [i16; 1023],
+    pub parts: Parts,
 }
 
 // Builds for a destination of that many places.
@@ -286,11 +249,11 @@ fn build_in_room(
     places: usize,
     scratch: &mut [i16],
 ) -> BuiltParts
-    ensures { λ r. ⌜ BuiltInRoom (now (setpoints .entry)) rest band places (r .answer) (r .nodes) (r .values) (now (scratch .entry)) (now (scratch .exit)) ⌝ }
+    ensures { λ r. ⌜ BuiltInRoom (now (setpoints .entry)) rest band places (r .answer) (r .parts) (now (scratch .entry)) (now (scratch .exit)) ⌝ }
 {
-    let mut nodes = room_of_nodes();
-    let mut values = room_of_values();
-    let limit = smaller(places, 1023);
+    let mut nodes = [0u16; 1024];
+    let mut values = [0i16; 1024];
+    let limit = smaller(places, 1024);
     let answer = build::build_synopsis(
         setpoints,
         rest,
@@ -301,7 +264,10 @@ fn build_in_room(
     );
     BuiltParts {
         answer: answer,
-        nodes: nodes,
-        values: values,
+        parts: Parts {
+            count: answer.count,
+            nodes: nodes,
+            values: values,
+        },
     }
 }

@@ -6,6 +6,7 @@ use Prim.Native.Nat.{ℕ, suc, _+_, _≤_, _<_, min, max}
 use native.Mathlib.Omega.{arith}
 use lib.Dec.{T, leb, ltb, leb→le, le→leb}
 use lib.ListN.{length}
+use mir.Facts.{and-yes, yes-and}
 use borrow.Author.Tests.{ltb-true, ltb-false, leb-true, leb-false, le-leb}
 use Rattle.windows.specs.Windows.{Window, inside, covers, Sorted, between, meet, join}
 
@@ -20,15 +21,6 @@ same-test false false there back = refl
 
 fails : (test : Bool) → (T test → ⊥) → test ≡ false
 fails test wrong = same-test test false wrong (λ never. absurd never)
-
-both : (one other : Bool) → T one → T other → T (one && other)
-both true other first second = second
-
-first-of-both : (one other : Bool) → T (one && other) → T one
-first-of-both true other passes = tt
-
-second-of-both : (one other : Bool) → T (one && other) → T other
-second-of-both true other passes = passes
 
 either-first : (one other : Bool) → T one → T (one || other)
 either-first true other passes = tt
@@ -45,13 +37,13 @@ from-either false other first second passes = second passes
 -- ---- one window
 
 is-inside : (window : Window) (v : ℕ) → window .low ≤ v → v ≤ window .high → T (inside window v)
-is-inside window v above below = both (leb (window .low) v) (leb v (window .high)) (le→leb (window .low) v above) (le→leb v (window .high) below)
+is-inside window v above below = yes-and (leb (window .low) v) (leb v (window .high)) (le→leb (window .low) v above) (le→leb v (window .high) below)
 
 not-below : (window : Window) (v : ℕ) → T (inside window v) → window .low ≤ v
-not-below window v within = leb→le (window .low) v (first-of-both (leb (window .low) v) (leb v (window .high)) within)
+not-below window v within = leb→le (window .low) v (and-yes (leb (window .low) v) (leb v (window .high)) within .0)
 
 not-above : (window : Window) (v : ℕ) → T (inside window v) → v ≤ window .high
-not-above window v within = leb→le v (window .high) (second-of-both (leb (window .low) v) (leb v (window .high)) within)
+not-above window v within = leb→le v (window .high) (and-yes (leb (window .low) v) (leb v (window .high)) within .1)
 
 -- of two windows without a value in both, the one that starts first ends before the other starts
 ends-before : (first second : Window) → first .low ≤ second .low → (T (inside first (second .low)) → ⊥) → first .high < second .low
@@ -138,12 +130,12 @@ inside-meeting a b v = same-test (inside (meeting a b) v) (inside a v && inside 
     there within =
         let above = not-below (meeting a b) v within in
         let below = not-above (meeting a b) v within in
-        both (inside a v) (inside b v) (is-inside a v (omega arith) (omega arith)) (is-inside b v (omega arith) (omega arith))
+        yes-and (inside a v) (inside b v) (is-inside a v (omega arith) (omega arith)) (is-inside b v (omega arith) (omega arith))
 
     back : T (inside a v && inside b v) → T (inside (meeting a b) v)
     back within =
-        let in-a = first-of-both (inside a v) (inside b v) within in
-        let in-b = second-of-both (inside a v) (inside b v) within in
+        let in-a = and-yes (inside a v) (inside b v) within .0 in
+        let in-b = and-yes (inside a v) (inside b v) within .1 in
         is-inside (meeting a b) v (omega (arith, not-below a v in-a, not-below b v in-b)) (omega (arith, not-above a v in-a, not-above b v in-b))
 
 -- of two lists, the left one's first window a ends first, so that it meets nothing of the right one after its first window b

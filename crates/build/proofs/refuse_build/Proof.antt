@@ -10,23 +10,23 @@ use mir.Facts.{toZ-ofZ}
 use Rattle.limits.specs.Limits.{outsideBand}
 use Rattle.histogram.specs.Tree.{padded}
 use Rattle.limits.proofs.Refusals.{first-counts}
-use Rattle.build.specs.Building.{profileRefusal}
+use Rattle.build.specs.Building.{valuesRefusal}
 use Rattle.build.proofs.Accepted.{profile-accepted}
 use Rattle.build.proofs.refuse_build.Statement.{statement}
 use Rattle.build.proofs.refuse_build.Tie as tie
 
-refuse-profile-requires : tie.Need-refuse-profile-requires
-refuse-profile-requires c κs = search needs
+refuse-setpoints-requires : tie.Need-refuse-setpoints-requires
+refuse-setpoints-requires c κs = search needs
 
-profile-answer : (c : tie.After-refuse-profile) → c .refuse-profile .result ≡ profileRefusal (c .before .args .setpoints .now) (c .before .args .rest)
-profile-answer c = rw (toZ-ofZ (c .before .fits .rest)) at (c .refuse-profile .ensures)
+profile-answer : (c : tie.After-refuse-setpoints) → c .refuse-setpoints .result ≡ valuesRefusal (c .before .args .setpoints .now) (c .before .args .rest)
+profile-answer c = rw (toZ-ofZ (c .before .fits .rest)) at (c .refuse-setpoints .ensures)
 
 returns : tie.Need-returns
-returns c = sym (rw (← profile-answer (c .before)) (first-counts (c .before .refuse-profile .result) _ (c .if1 .taken)))
+returns c = sym (rw (← profile-answer (c .before)) (first-counts (c .before .refuse-setpoints .result) _ (c .if1 .taken)))
 
-profile-right : (c : tie.Else1) → profileRefusal (c .before .before .args .setpoints .now) (c .before .before .args .rest) ≡ 0
+profile-right : (c : tie.Else1) → valuesRefusal (c .before .before .args .setpoints .now) (c .before .before .args .rest) ≡ 0
 profile-right c =
-    let none : c .before .refuse-profile .result ≡ 0 = omega arith in
+    let none : c .before .refuse-setpoints .result ≡ 0 = omega arith in
     sym (profile-answer (c .before)) ∙ none
 
 few-slots : (c : tie.Else1) → length (c .before .before .args .setpoints .now) ≤ 512
@@ -69,7 +69,7 @@ pub refuse-build-spec : {M : Type 1} → statement M
 refuse-build-spec =
     tie.close
     (tie.spec
-    refuse-profile-requires
+    refuse-setpoints-requires
     returns
     is-outside-band-requires
     returns-2

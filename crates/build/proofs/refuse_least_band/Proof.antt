@@ -5,22 +5,22 @@ use native.Mathlib.Omega.{arith}
 use borrow.Author.Tests.{lt-ltb, le-ltb}
 use mir.Facts.{toZ-ofZ}
 use Rattle.limits.proofs.Refusals.{first-counts}
-use Rattle.build.specs.Building.{profileRefusal}
+use Rattle.build.specs.Building.{valuesRefusal}
 use Rattle.build.proofs.refuse_least_band.Statement.{statement}
 use Rattle.build.proofs.refuse_least_band.Tie as tie
 
-refuse-profile-requires : tie.Need-refuse-profile-requires
-refuse-profile-requires c κs = search needs
+refuse-setpoints-requires : tie.Need-refuse-setpoints-requires
+refuse-setpoints-requires c κs = search needs
 
-profile-answer : (c : tie.After-refuse-profile) → c .refuse-profile .result ≡ profileRefusal (c .before .args .setpoints .now) (c .before .args .rest)
-profile-answer c = rw (toZ-ofZ (c .before .fits .rest)) at (c .refuse-profile .ensures)
+profile-answer : (c : tie.After-refuse-setpoints) → c .refuse-setpoints .result ≡ valuesRefusal (c .before .args .setpoints .now) (c .before .args .rest)
+profile-answer c = rw (toZ-ofZ (c .before .fits .rest)) at (c .refuse-setpoints .ensures)
 
 returns : tie.Need-returns
-returns c = sym (rw (← profile-answer (c .before)) (first-counts (c .before .refuse-profile .result) _ (c .if1 .taken)))
+returns c = sym (rw (← profile-answer (c .before)) (first-counts (c .before .refuse-setpoints .result) _ (c .if1 .taken)))
 
-profile-right : (c : tie.Else1) → profileRefusal (c .before .before .args .setpoints .now) (c .before .before .args .rest) ≡ 0
+profile-right : (c : tie.Else1) → valuesRefusal (c .before .before .args .setpoints .now) (c .before .before .args .rest) ≡ 0
 profile-right c =
-    let none : c .before .refuse-profile .result ≡ 0 = omega arith in
+    let none : c .before .refuse-setpoints .result ≡ 0 = omega arith in
     sym (profile-answer (c .before)) ∙ none
 
 returns-2 : tie.Need-returns-2
@@ -41,4 +41,4 @@ returns-4 c =
 
 pub refuse-least-band-spec : {M : Type 1} → statement M
 refuse-least-band-spec =
-    tie.close (tie.spec refuse-profile-requires returns returns-2 is-scratch-short-requires returns-3 returns-4)
+    tie.close (tie.spec refuse-setpoints-requires returns returns-2 is-scratch-short-requires returns-3 returns-4)

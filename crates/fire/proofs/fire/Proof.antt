@@ -2,9 +2,9 @@
 use borrow.Author.Needs.{needs}
 use mathlib.Core.Path.{sym}
 use native.Mathlib.Omega.{arith}
-use lib.ListN.{length-take}
 use lib.Seq.{length-take-le}
-use Rattle.panel.proofs.Texts.{held}
+use mir.Facts.{toZ-ofZ}
+use Rattle.panel.proofs.Texts.{held, rest-fits, band-fits, room-right}
 use Rattle.fire.proofs.fire.Statement.{statement}
 use Rattle.fire.proofs.fire.Tie as tie
 
@@ -28,8 +28,8 @@ slice-aggregate-fire-profile c = sym (length-take-le _ _ (held (c .before .befor
 
 fire-profile-requires : tie.Need-fire-profile-requires
 fire-profile-requires c κs =
-    let read = c .before .before .before .before .before .before .read-text in
-    omega (arith, length-take (read .result .slots) (read .last .1 .0), read .kept .1 .0)
+    let of-text = held (c .before .before .before .before .before .before .read-text .ensures) (omega arith) in
+    rw (toZ-ofZ (rest-fits of-text), toZ-ofZ (band-fits of-text)) (room-right of-text)
 
 returns-2 : tie.Need-returns-2
 returns-2 c = search needs

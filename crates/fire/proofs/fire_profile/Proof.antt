@@ -3,7 +3,7 @@ use borrow.Author.Needs.{needs}
 use mathlib.Core.Path.{sym, _∙_}
 use native.Mathlib.Omega.{arith}
 use lib.Seq.{length-take-le}
-use Rattle.panel.proofs.Records.{nodes-enough, values-enough}
+use Rattle.panel.proofs.Records.{nodes-enough, values-enough, at-most-512}
 use Rattle.fire.proofs.fire_profile.Statement.{statement}
 use Rattle.fire.proofs.fire_profile.Tie as tie
 
@@ -19,42 +19,37 @@ slice-aggregate-build-synopsis-3 c = search needs
 build-synopsis-requires : tie.Need-build-synopsis-requires
 build-synopsis-requires c κs = search needs
 
-print-refused-requires : tie.Need-print-refused-requires
-print-refused-requires c κs = search needs
-
-returns : tie.Need-returns
-returns c = search needs
-
 print-summary-requires : tie.Need-print-summary-requires
 print-summary-requires c κs = search needs
 
 array-share-prefix-nodes : tie.Need-array-share-prefix-nodes
 array-share-prefix-nodes c =
-    let built = c .before .before .before .before .before .before .build-synopsis in
+    let built = c .before .before .before .before .build-synopsis in
     nodes-enough (built .result .count) (built .last .1 .1 .1 .0) (built .last .1 .1 .1 .1 .0) (built .ensures .0 .count-is)
 
 slice-aggregate-print-synopsis : tie.Need-slice-aggregate-print-synopsis
 slice-aggregate-print-synopsis c =
-    let built = c .before .before .before .before .before .before .before .build-synopsis in
+    let built = c .before .before .before .before .before .build-synopsis in
     sym (length-take-le _ _ (nodes-enough (built .result .count) (built .last .1 .1 .1 .0) (built .last .1 .1 .1 .1 .0) (built .ensures .0 .count-is)))
 
 array-share-prefix-values : tie.Need-array-share-prefix-values
 array-share-prefix-values c =
-    let built = c .before .before .before .before .before .before .before .build-synopsis in
+    let built = c .before .before .before .before .before .build-synopsis in
     values-enough (built .result .count) (built .last .1 .1 .1 .0) (built .last .1 .1 .1 .1 .0) (built .ensures .0 .count-is)
 
 slice-aggregate-print-synopsis-2 : tie.Need-slice-aggregate-print-synopsis-2
 slice-aggregate-print-synopsis-2 c =
-    let built = c .before .before .before .before .before .before .before .before .build-synopsis in
+    let built = c .before .before .before .before .before .before .build-synopsis in
     sym (length-take-le _ _ (values-enough (built .result .count) (built .last .1 .1 .1 .0) (built .last .1 .1 .1 .1 .0) (built .ensures .0 .count-is)))
 
 print-synopsis-requires : tie.Need-print-synopsis-requires
 print-synopsis-requires c κs =
-    let built = c .before .before .before .before .before .before .before .before .build-synopsis in
-    (omega arith, length-take-le _ _ (nodes-enough (built .result .count) (built .last .1 .1 .1 .0) (built .last .1 .1 .1 .1 .0) (built .ensures .0 .count-is)) ∙ sym (length-take-le _ _ (values-enough (built .result .count) (built .last .1 .1 .1 .0) (built .last .1 .1 .1 .1 .0) (built .ensures .0 .count-is))))
+    let start = c .before .before .before .before .before .before .before .before .before .before in
+    let built = c .before .before .before .before .before .before .build-synopsis in
+    (at-most-512 (start .pre), length-take-le _ _ (nodes-enough (built .result .count) (built .last .1 .1 .1 .0) (built .last .1 .1 .1 .1 .0) (built .ensures .0 .count-is)) ∙ sym (length-take-le _ _ (values-enough (built .result .count) (built .last .1 .1 .1 .0) (built .last .1 .1 .1 .1 .0) (built .ensures .0 .count-is))))
 
-returns-2 : tie.Need-returns-2
-returns-2 c = search needs
+returns : tie.Need-returns
+returns c = search needs
 
 pub fire-profile-spec : {M : Type 1} → statement M
 fire-profile-spec =
@@ -64,12 +59,10 @@ fire-profile-spec =
     slice-aggregate-build-synopsis-2
     slice-aggregate-build-synopsis-3
     build-synopsis-requires
-    print-refused-requires
-    returns
     print-summary-requires
     array-share-prefix-nodes
     slice-aggregate-print-synopsis
     array-share-prefix-values
     slice-aggregate-print-synopsis-2
     print-synopsis-requires
-    returns-2)
+    returns)

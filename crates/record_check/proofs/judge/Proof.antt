@@ -2,12 +2,14 @@
 use mathlib.Core.Path.{_≡_, refl, sym, ap, _∙_}
 use Prim.Native.Nat.{ℕ, _*_, _≤_, _<_}
 use native.Mathlib.Omega.{arith}
-use lib.ListN.{length}
+use lib.IntN.{pos}
+use lib.ListN.{length, getD}
 use lib.Pow.{pow-pos}
 use mir.Facts.{toZ-ofZ}
 use Rattle.histogram.specs.Tree.{height, padded}
 use Rattle.histogram.specs.Terms.{paired}
-use Rattle.histogram.specs.Inner.{Handing, HandedDown}
+use Rattle.histogram.specs.Restored.{restoredAt}
+use Rattle.histogram.specs.Inner.{Handing}
 use Rattle.histogram.proofs.Powers.{padded-bound}
 use Rattle.record_check.specs.Inner.{Comparable}
 use Rattle.record_check.proofs.Judged.{comparable, judged}
@@ -22,10 +24,11 @@ few c = omega (arith, c .padded-length .ensures, padded-bound (c .before .before
 as-long : (c : tie.After-hand-down) → length (c .hand-down .last .1 .1 .1 .1 .0) ≡ 1024
 as-long c = c .hand-down .kept .1 .1 .1 .1 .0
 
-handed : (c : tie.After-hand-down)
-    → let start = c .before .before .before .before in
-    HandedDown (start .args .rest) (paired (start .args .nodes .now) (start .args .values .now)) (2 * c .before .before .padded-length .result) (c .hand-down .last .1 .1 .1 .1 .0)
-handed c = rw (toZ-ofZ (c .before .before .before .before .fits .rest)) at (c .hand-down .ensures)
+at-node : (c : tie.After-hand-down)
+    → let args = c .before .before .before .before .args in
+    (node : ℕ) → node < 2 * c .before .before .padded-length .result
+    → getD (c .hand-down .last .1 .1 .1 .1 .0) node (pos 0) ≡ restoredAt (args .rest) (paired (args .nodes .now) (args .values .now)) node
+at-node c = rw (toZ-ofZ (c .before .before .before .before .fits .rest)) at (c .hand-down .ensures .at-node)
 
 enough : (c : tie.After-hand-down) → 2 * c .before .before .padded-length .result ≤ length (c .hand-down .last .1 .1 .1 .1 .0)
 enough c = omega (arith, few (c .before .before), as-long c)
@@ -66,14 +69,14 @@ compare-requires : tie.Need-compare-requires
 compare-requires c κs =
     let start = c .before .before .before .before .before .before .before in
     let a = start .args in
-    comparable (a .setpoints .now) (a .band) (a .rest) (a .nodes .now) (a .values .now) (start .pre) _ (c .before .before .before .before .before .padded-length .ensures) _ (enough (c .before .before .before)) (handed (c .before .before .before))
+    comparable (a .setpoints .now) (a .band) (a .rest) (a .nodes .now) (a .values .now) (start .pre) _ (c .before .before .before .before .before .padded-length .ensures) _ (enough (c .before .before .before)) (at-node (c .before .before .before))
 
 returns : tie.Need-returns
 returns c =
     let start = c .before .before .before .before .before .before .before .before in
     let a = start .args in (
       c .compare .ensures .0,
-      judged (a .setpoints .now) (a .band) (a .rest) (a .nodes .now) (a .values .now) (start .pre) _ (c .before .before .before .before .before .before .padded-length .ensures) _ (enough (c .before .before .before .before)) (handed (c .before .before .before .before)) _ _ _
+      judged (a .setpoints .now) (a .band) (a .rest) (a .nodes .now) (a .values .now) (start .pre) _ (c .before .before .before .before .before .before .padded-length .ensures) _ (enough (c .before .before .before .before)) (at-node (c .before .before .before .before)) _ _ _
           (c .compare .ensures .1),
     )
 

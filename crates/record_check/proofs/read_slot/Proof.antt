@@ -4,7 +4,7 @@ use Rattle.record_read.proofs.Accepted as Accepted
 use mir.Syntax.{w32}
 use mir.Val.{SFits}
 use mir.Facts.{toZ-ofZ}
-use Rattle.record_check.proofs.Slots.{refused-slot, restored-slot}
+use Rattle.record_check.proofs.Slots.{refused-slot, terms-right, restored-slot}
 use borrow.Author.Needs.{needs}
 use Rattle.record_check.proofs.read_slot.Statement.{statement}
 use Rattle.record_check.proofs.read_slot.Tie as tie
@@ -24,27 +24,31 @@ returns c = refused-slot (c .before .before .before .before .before .before .bef
 array-share-prefix-nodes : tie.Need-array-share-prefix-nodes
 array-share-prefix-nodes c = Accepted.in-nodes (c .before .before .before .before .before .before .before .before .args .bytes .now) _ _ _ _ _ _ _ _ _ (c .before .before .before .before .read-into-room .ensures) (c .if1 .left)
 
-slice-aggregate-restore-slot : tie.Need-slice-aggregate-restore-slot
-slice-aggregate-restore-slot c = sym (Accepted.nodes-counted (c .before .before .before .before .before .before .before .before .before .args .bytes .now) _ _ _ _ _ _ _ _ _ (c .before .before .before .before .before .read-into-room .ensures) (c .before .if1 .left))
+slice-aggregate-restore-checked-slot : tie.Need-slice-aggregate-restore-checked-slot
+slice-aggregate-restore-checked-slot c = sym (Accepted.nodes-counted (c .before .before .before .before .before .before .before .before .before .args .bytes .now) _ _ _ _ _ _ _ _ _ (c .before .before .before .before .before .read-into-room .ensures) (c .before .if1 .left))
 
 array-share-prefix-values : tie.Need-array-share-prefix-values
 array-share-prefix-values c = Accepted.in-values (c .before .before .before .before .before .before .before .before .before .args .bytes .now) _ _ _ _ _ _ _ _ _ (c .before .before .before .before .before .read-into-room .ensures) (c .before .if1 .left)
 
-slice-aggregate-restore-slot-2 : tie.Need-slice-aggregate-restore-slot-2
-slice-aggregate-restore-slot-2 c = sym (Accepted.values-counted (c .before .before .before .before .before .before .before .before .before .before .args .bytes .now) _ _ _ _ _ _ _ _ _ (c .before .before .before .before .before .before .read-into-room .ensures) (c .before .before .if1 .left))
+slice-aggregate-restore-checked-slot-2 : tie.Need-slice-aggregate-restore-checked-slot-2
+slice-aggregate-restore-checked-slot-2 c = sym (Accepted.values-counted (c .before .before .before .before .before .before .before .before .before .before .args .bytes .now) _ _ _ _ _ _ _ _ _ (c .before .before .before .before .before .before .read-into-room .ensures) (c .before .before .if1 .left))
 
-restore-slot-requires : tie.Need-restore-slot-requires
-restore-slot-requires c κs =
-    let read = c .before .before .before .before .before .before .before .read-into-room .ensures in
-    Accepted.nodes-counted (c .before .before .before .before .before .before .before .before .before .before .before .args .bytes .now) _ _ _ _ _ _ _ _ _ read (c .before .before .before .if1 .left)
-    ∙ sym (Accepted.values-counted (c .before .before .before .before .before .before .before .before .before .before .before .args .bytes .now) _ _ _ _ _ _ _ _ _ read (c .before .before .before .if1 .left))
+restore-checked-slot-requires : tie.Need-restore-checked-slot-requires
+restore-checked-slot-requires c κs =
+    let args = c .before .before .before .before .before .before .before .before .before .before .before .args in
+    let read = c .before .before .before .before .before .before .before .read-into-room in
+    let right = c .before .before .before .if1 .left in
+    let fits : SFits w32 (read .result .rest) = search needs in (
+      Accepted.nodes-counted (args .bytes .now) _ _ _ _ _ _ _ _ _ (read .ensures) right ∙ sym (Accepted.values-counted (args .bytes .now) _ _ _ _ _ _ _ _ _ (read .ensures) right),
+      rw (toZ-ofZ fits) (terms-right (args .bytes .now) _ _ _ _ _ _ _ _ _ (read .ensures) (args .slot) right),
+    )
 
 returns-2 : tie.Need-returns-2
 returns-2 c =
     let a = c .before .before .before .before .before .before .before .before .before .before .before .before .args in
     let read = c .before .before .before .before .before .before .before .before .read-into-room in
     let fits : SFits w32 (read .result .rest) = search needs in
-    restored-slot (a .bytes .now) _ _ _ _ _ _ _ _ _ (read .ensures) (a .slot) (c .before .before .before .before .if1 .left) _ _ (rw (toZ-ofZ fits) at (c .restore-slot .ensures))
+    restored-slot (a .bytes .now) _ _ _ _ _ _ _ _ _ (read .ensures) (a .slot) (c .before .before .before .before .if1 .left) _ _ (rw (toZ-ofZ fits) at (c .restore-checked-slot .ensures))
 
 pub read-slot-spec : {M : Type 1} → statement M
 read-slot-spec =
@@ -55,8 +59,8 @@ read-slot-spec =
     read-into-room-requires
     returns
     array-share-prefix-nodes
-    slice-aggregate-restore-slot
+    slice-aggregate-restore-checked-slot
     array-share-prefix-values
-    slice-aggregate-restore-slot-2
-    restore-slot-requires
+    slice-aggregate-restore-checked-slot-2
+    restore-checked-slot-requires
     returns-2)

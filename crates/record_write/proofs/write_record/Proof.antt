@@ -15,7 +15,7 @@ use Rattle.histogram.specs.declared.Term.{Term}
 use Rattle.histogram.specs.Terms.{paired}
 use Rattle.limits.proofs.Signed.{narrower, narrower-fits}
 use Rattle.record.specs.Record.{recordBits, recordLength, recordBytes}
-use Rattle.record.specs.Answers.{synopsisRefusal, RecordWritten}
+use Rattle.record.specs.Answers.{packingRefusal, RecordWritten}
 use Rattle.histogram.proofs.Paired.{length-paired}
 use Rattle.histogram.proofs.Ascent.{node-below}
 use Rattle.record_write.proofs.Refusals.{Accepted, accepted}
@@ -24,17 +24,17 @@ use Rattle.record_write.proofs.write_record.Statement.{statement}
 use Rattle.record_write.proofs.write_record.Tie as tie
 
 module _ (n : ℕ) (band rest : ℤ) (terms : List Term) (before : List ℕ) where
-  turned-away : (refusal : ℕ) → refusal ≡ synopsisRefusal n band rest terms → 0 < refusal → RecordWritten n band rest terms refusal 0 before before
+  turned-away : (refusal : ℕ) → refusal ≡ packingRefusal n band rest terms → 0 < refusal → RecordWritten n band rest terms refusal 0 before before
   turned-away refusal is some = record {
     refusal-is = sym (rw (← is) (first-counts refusal _ some));
     count-is = sym (granted-nothing refusal _ 0 some);
     destination-is = ap (λ (written : List ℕ). laid written before) (sym (granted-nothing refusal _ [] some));
   }
 
-  too-short : synopsisRefusal n band rest terms ≡ 0 → length before < recordLength (length terms) → RecordWritten n band rest terms 6 0 before before
+  too-short : packingRefusal n band rest terms ≡ 0 → length before < recordLength (length terms) → RecordWritten n band rest terms 6 0 before before
   too-short right short = record { refusal-is = rw (right, lt-ltb (length before) (recordLength (length terms)) short); count-is = refl; destination-is = refl }
 
-  record-over : (count : ℕ) (front : List ℕ) → synopsisRefusal n band rest terms ≡ 0 → count ≡ recordLength (length terms) → count ≤ length before
+  record-over : (count : ℕ) (front : List ℕ) → packingRefusal n band rest terms ≡ 0 → count ≡ recordLength (length terms) → count ≤ length before
       → front ≡ recordBytes n (natAbs band) rest terms → RecordWritten n band rest terms 0 count before (front ++ drop count before)
   record-over count front right count-is fits front-is =
       let long : length (recordBytes n (natAbs band) rest terms) ≡ recordLength (length terms) = length-packed (recordLength (length terms)) (recordBits n (natAbs band) rest terms) in
@@ -46,7 +46,7 @@ module _ (n : ℕ) (band rest : ℤ) (terms : List Term) (before : List ℕ) whe
 
 refusal-answer : (c : tie.After-refuse)
     → let args = c .before .before .before .args in
-    c .refuse .result ≡ synopsisRefusal (args .slots) (args .band) (args .rest) (paired (args .nodes .now) (args .values .now))
+    c .refuse .result ≡ packingRefusal (args .slots) (args .band) (args .rest) (paired (args .nodes .now) (args .values .now))
 refusal-answer c = rw (toZ-ofZ (c .before .before .before .fits .band), toZ-ofZ (c .before .before .before .fits .rest)) at (c .refuse .ensures)
 
 accepted-here : (c : tie.Else1) → let args = c .before .before .before .before .args in Accepted (args .slots) (args .band) (args .rest) (paired (args .nodes .now) (args .values .now))

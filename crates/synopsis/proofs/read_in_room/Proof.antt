@@ -4,12 +4,6 @@ use borrow.Author.Needs.{needs}
 use Rattle.synopsis.proofs.read_in_room.Statement.{statement}
 use Rattle.synopsis.proofs.read_in_room.Tie as tie
 
-room-of-nodes-requires : tie.Need-room-of-nodes-requires
-room-of-nodes-requires c κs = search needs
-
-room-of-values-requires : tie.Need-room-of-values-requires
-room-of-values-requires c κs = search needs
-
 slice-aggregate-read-into-room : tie.Need-slice-aggregate-read-into-room
 slice-aggregate-read-into-room c = search needs
 
@@ -24,15 +18,13 @@ for-places-requires c κs = search needs
 
 returns : tie.Need-returns
 returns c =
-    let a = c .before .before .before .before .before .before .before .before .before .args in
+    let a = c .before .before .before .before .before .before .before .args in
     rw (c .for-places .ensures) (read-in-room (a .bytes .now) (a .places) _ _ _ _ _ (c .before .before .before .read-into-room .ensures))
 
 pub read-in-room-spec : {M : Type 1} → statement M
 read-in-room-spec =
     tie.close
     (tie.spec
-    room-of-nodes-requires
-    room-of-values-requires
     slice-aggregate-read-into-room
     slice-aggregate-read-into-room-2
     read-into-room-requires

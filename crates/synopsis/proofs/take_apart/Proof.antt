@@ -1,10 +1,33 @@
--- `synopsis::take_apart` meets its contract: a walk of its MIR, by hand, with a loop. Each turn looks into `terms` for one term, and opens `nodes` and `values` to store its node and its value.
--- The invariant, where t terms are left: i terms are taken apart, and i + t is n.
-use Rattle.synopsis.proofs.Walk.{_≡_, refl, sym, ap, subst, ℕ, _<_, _^_, _*_, _+_, suc, _≤_, arith, List, [], _∷_, length, length-set, URA, fullShare, named, w64, tyPtr, Ty, imm, mut, w16, tyBool, tyUnit, loop, Val, vint, vptr, vunit, vbool, SProp, ent, Lft, GName, Share, ftrue, fat, flft, fobs, fbor, Fml, froom, fdies, Memory, Routine, Heap, Calls, Loops, WpFn, Tables, Out, Env, afterSeq, afterBlock, afterTurn, Wp, atReturn, Atoms, Fun, givenOf, tables, tablesOf, Given, ‵, _⊛_, ⋆, _$_, _∵_, !, qed, by, move, keep, use1, split, join, rewrite, fsplit, fjoin, suffices, frame, done, drop, feqI, Item, anyQ, atRet, whole, sub, look-in, look, init, forget, stop, hop, fld, from, load, lit, of-opd, bin, assigns, returns, enter, alloc1, alloc0, params1, pass1, pass0, free1, free0, store, unit-lit, assigns-last, stays, leaves-loop, exec, WpFn-mono, owns, Is, shows, uint-vals, uint-tells, uint-makes, cellAt, RefT, now, sliceVal, ShrSlice, Room, slice-vals, shr-slice-tells, MutSlice, heres, mut-slice-tells, at-slice, codedHoleys, place, place-is, elem-out, elem-back, looks-slice, shuts-slice, elem-put, opens-slice, closes-slice, plain, usize, u16, i16, nothing, owned, Vals, onEntry, Meets, tripleOf, entered, says, needs, Stays, stay-none-slice, stay-none, walkOf, Walks, ends-at, walked, goes-none-slice, goes-none, walk-meets, stay-slice, goes-slice, yes, pureI, Held, add-one, Bool, ℤ, pos, lit<, ofZ-fits, sint-vals, sint-tells, sint-makes, termVals, termVal, word, half, natVal, intVal, sliceOf, termTy, lt-ltb, le-ltb, le-refl}
+-- `synopsis::take_apart` meets its contract: a walk of its MIR, by hand, with a loop. Each turn has one term of `term_out`, and stores its node and its value in the rows of two local arrays.
+-- The invariant, where t terms are left: i terms are taken apart, and i + t is the count.
+use Rattle.synopsis.proofs.Walk.{_≡_, refl, sym, ap, subst, _∙_, ℕ, _<_, _^_, _*_, _+_, suc, arith, List, [], _∷_, length, URA, fullShare, named, w64, tyPtr, Ty, imm, w16, tyBool, loop, Val, vint, vptr, vbool, SProp, ent, via, guardI, sep, id⊢, fst∗, emp, Lft, GName, Share, ftrue, fat, flft, Fml, froom, fdies, Memory, Routine, Heap, Calls, Loops, WpFn, Tables, Out, Env, afterSeq, afterBlock, Wp, atReturn, afterTurn, Atoms, sem, Fun, givenOf, tables, tablesOf, Given, ‵, _⊛_, ⋆, _$_, _∵_, !, qed, by, move, keep, use1, split, join, rewrite, fsplit, fjoin, suffices, frame, done, drop, Item, anyQ, atRet, raw, use2, whole, sub, look-in, agg, look, init, forget, stop, hop, fld, from, load, lit, of-opd, bin, assigns, returns, enter, alloc1, alloc0, params1, pass1, pass0, free1, free0, store, and-then, no-more, assigns-last, stays, leaves-loop, exec, addr, land, WpFn-mono, FmC, fmOf, owns, Is, shows, uint-vals, uint-tells, uint-makes, uint-lawful, pointee, RefT, now, sliceVal, ShrSlice, Room, slice-vals, shr-slice-tells, shr-slice-copy, place-is, elem-out, elem-put, row, plain, usize, u16, i16, nothing, owned, peeks, only, Vals, onEntry, Meets, tripleOf, entered, cited, says, Stays, stay-none-slice, walkOf, Walks, ends-at, walked, goes-none-slice, walk-meets, yes, le-refl, add-one, Bool, ℤ, pos, lit<, lt-ltb, le-ltb, ofZ-fits, sint-vals, sint-tells, sint-makes, Contract, Triple, Array, termVal, word, natVal, intVal, sliceOf, termTy, natsVal, intsVal}
+use Prim.Native.Nat.{min}
+use mir.Syntax.{Width, intBig}
+use mir.Table.{spell}
+use mir.Val.{Fits}
+use types.Run.{Opd}
 use denote.Struct.Laws as LL
-use Rattle.synopsis.specs.Inner.{FitApart, Apart, zeroTerm, termAt}
+use Rattle.synopsis.specs.declared.Parts.{Parts}
+use Rattle.synopsis.specs.Inner.{termAt, PartsOf}
+use Rattle.synopsis.proofs.Answering.{Of, answers}
 use Rattle.synopsis.proofs.Counting.{counts}
+use Rattle.synopsis.proofs.Rooms.{parts-of-terms}
+use Rattle.synopsis.proofs.Rows.{roomTy, NodesAre, ValuesAre, parts-right, nodes-right, values-right, right-parts, nodes-long, values-long, nodes-typed, values-typed, nodes-row, values-row, nodes-array, values-array}
 use Rattle.synopsis.proofs.Storing.{stored, length-stored, parts-laid}
+use Rattle.synopsis.proofs.Parts as K
+use Rattle.synopsis.proofs.Parts.Laws as K′
+use Rattle.windows.proofs.smaller as count
+use Rattle.windows.proofs.smaller.Symbol as count-def
+use Rattle.windows.proofs.smaller.Symbol.{name as #windows·smaller}
+use Rattle.windows.proofs.smaller.Met as count-thm
+use Rattle.synopsis.proofs.empty_room as empty
+use Rattle.synopsis.proofs.empty_room.Symbol as empty-def
+use Rattle.synopsis.proofs.empty_room.Symbol.{name as #synopsis·empty-room}
+use Rattle.synopsis.proofs.empty_room.Met as empty-thm
+use Rattle.synopsis.proofs.term_out as out
+use Rattle.synopsis.proofs.term_out.Symbol as out-def
+use Rattle.synopsis.proofs.term_out.Symbol.{name as #synopsis·term-out}
+use Rattle.synopsis.proofs.term_out.Met as out-thm
 use Rattle.histogram.specs.declared.Term.{Term}
 use Rattle.histogram.proofs.Term as T
 use Rattle.histogram.proofs.Term.Laws as T′
@@ -14,201 +37,235 @@ use Rattle.synopsis.proofs.take_apart.Statement as stated
 use Rattle.synopsis.proofs.take_apart.Code as code
 use Rattle.synopsis.proofs.take_apart.Code.Mir as mir′
 
+-- a large number in the code is an operand
+number : {M : Type 1} {𝓤 : URA M} {H : Heap 𝓤} {A : Atoms 𝓤} {K : Type 0} {W : Given 𝓤 H A} {Γ : List (Item 𝓤)} {E : Env 𝓤 H} → K → {w : Width} {k : ℕ} → Fits w k → Opd K W Γ E (intBig w k) (vint w k)
+number {𝓤 = 𝓤} t {w} {k} fits = record { go = λ Kt h. via 𝓤 (Kt (vint w k)) h (guardI 𝓤 (Fits w k) (Kt (vint w k)) fits) }
+
 abbrev stayed : Stays (f.ended .signature .params) (f.ended .kept)
-stayed = (stay-none-slice (0 ∷ []) tt (plain (λ _. T.the-row)) yes, (stay-none (λ _. usize) yes, (stay-slice (1 ∷ []) tt (plain (λ _. u16)), (stay-slice (2 ∷ []) tt (plain (λ _. i16)), tt))))
+stayed = (stay-none-slice (0 ∷ []) tt (plain (λ _. T.the-row)) yes, tt)
 
 abbrev sliceT : Ty
 sliceT = sliceOf (named 0) imm termTy
 
-abbrev sliceN : Ty
-sliceN = sliceOf (named 1) mut half
+abbrev tyT : Ty
+tyT = spell mir′.table (pointee (T.the-row .written))
 
-abbrev sliceV : Ty
-sliceV = sliceOf (named 2) mut half
+abbrev tyK : Ty
+tyK = spell mir′.table (pointee (K.the-row .written))
 
--- that the machine values of a term's node and value are right
-abbrev AreParts : Term → Type 0
-AreParts t = Is u16 (t .node) (natVal (t .node) ∷ []) × (Is i16 (t .value) (intVal (t .value) ∷ []) × Unit {0})
+module _ {M : Type 1} (𝓤 : URA M) (H : Heap 𝓤) (A : Atoms 𝓤) (mem : Memory → SProp 𝓤) (run : Routine → Fun 𝓤) where
+  abbrev Count : Contract 𝓤
+  Count = Of 𝓤 H A count.ended (count.clauses 𝓤 H A mem run)
 
-module _ {M : Type 1} (𝓤 : URA M) (H : Heap 𝓤) (A : Atoms 𝓤) (W : Given 𝓤 H A) (mem : Memory → SProp 𝓤) (run : Routine → Fun 𝓤) (κ κ₁ κ₂ : Lft) (q q₁ q₂ : Share)
-    (b o : ℕ) (γ : GName) (xs : List Term) (n : ℕ) (b₁ o₁ : ℕ) (γ₁ : GName) (ns : List ℕ) (b₂ o₂ : ℕ) (γ₂ : GName) (vs : List ℤ) where
+  abbrev Empty : Contract 𝓤
+  Empty = Of 𝓤 H A empty.ended (empty.clauses 𝓤 H A mem run)
+
+  abbrev Copy : Contract 𝓤
+  Copy = Of 𝓤 H A out.ended (out.clauses 𝓤 H A mem run)
+
+  record Known (C : Calls 𝓤 H) : Type 1 where
+    pub counts-terms : Triple 𝓤 (C #windows·smaller) Count
+    pub makes-room : Triple 𝓤 (C #synopsis·empty-room) Empty
+    pub copies-out : Triple 𝓤 (C #synopsis·term-out) Copy
+
+module _ {M : Type 1} (𝓤 : URA M) (H : Heap 𝓤) (A : Atoms 𝓤) (W : Given 𝓤 H A) (mem : Memory → SProp 𝓤) (run : Routine → Fun 𝓤) (κ : Lft) (q : Share) (b o : ℕ) (γ : GName) (ys : List Term) where
+  abbrev n : ℕ
+  n = length ys
+
   abbrev xT : RefT (List Term)
-  xT = record { ptr = (b, o); name = γ; now = xs }
-
-  abbrev xN : List ℕ → RefT (List ℕ)
-  xN l = record { ptr = (b₁, o₁); name = γ₁; now = l }
-
-  abbrev xV : List ℤ → RefT (List ℤ)
-  xV l = record { ptr = (b₂, o₂); name = γ₂; now = l }
-
-  abbrev Arg : Type 0
-  Arg = RefT (List Term) × (ℕ × (RefT (List ℕ) × (RefT (List ℤ) × Unit {0})))
-
-  abbrev x : Arg
-  x = (xT, (n, (xN ns, (xV vs, tt))))
+  xT = record { ptr = (b, o); name = γ; now = ys }
 
   abbrev vT : Val
-  vT = sliceVal (b, o) (length xs)
+  vT = sliceVal (b, o) n
 
-  abbrev vN : Val
-  vN = sliceVal (b₁, o₁) (length ns)
+  abbrev Arg : Type 0
+  Arg = RefT (List Term) × Unit {0}
 
-  abbrev vV : Val
-  vV = sliceVal (b₂, o₂) (length vs)
+  abbrev x : Arg
+  x = (xT, tt)
 
-  abbrev at : Vals f.signature (κ, (κ₁, (κ₂, tt)))
-  at = (vT ∷ [], (vint w64 n ∷ [], (vN ∷ [], (vV ∷ [], tt))))
-
-  -- the term of turn i, and the nodes and the values after i stores
-  abbrev el : ℕ → Term
-  el i = termAt xs i
-
-  abbrev PN : ℕ → List ℕ
-  PN i = stored (λ (k : ℕ). termAt xs k .node) ns i
-
-  abbrev PV : ℕ → List ℤ
-  PV i = stored (λ (k : ℕ). termAt xs k .value) vs i
-
-  lenN : (i : ℕ) → length (PN i) ≡ length ns
-  lenN i = length-stored (λ (k : ℕ). termAt xs k .node) ns i
-
-  lenV : (i : ℕ) → length (PV i) ≡ length vs
-  lenV i = length-stored (λ (k : ℕ). termAt xs k .value) vs i
+  abbrev at : Vals f.signature (κ, tt)
+  at = (vT ∷ [], tt)
 
   abbrev OwnT : Fml
   OwnT = ShrSlice (named 0) κ T.the-row .own xT (vT ∷ [])
 
   abbrev Post : Val → SProp 𝓤
-  Post = walkOf 𝓤 H A f.ended stayed (f.clauses 𝓤 H A mem run) .post (((κ, (κ₁, (κ₂, tt))), (q, (q₁, (q₂, tt))), tt, x, at), tt)
+  Post = walkOf 𝓤 H A f.ended stayed (f.clauses 𝓤 H A mem run) .post (((κ, tt), (q, tt), tt, x, at), tt)
 
-  -- what is had of the parameters, where i terms are taken apart
-  abbrev Had : ℕ → List (Item 𝓤) → List (Item 𝓤)
-  Had i rest = ‵ OwnT ∷ ‵ (flft κ q) ∷ ‵ (fobs γ₁ (codedHoleys u16 .code (heres u16 (PN i)))) ∷ ‵ (fbor κ₁ (Held u16 (length (PN i)) b₁ o₁ γ₁)) ∷ ‵ (flft κ₁ q₁) ∷ ‵ (fobs γ₂ (codedHoleys i16 .code (heres i16 (PV i)))) ∷ ‵ (fbor κ₂ (Held i16 (length (PV i)) b₂ o₂ γ₂)) ∷ ‵ (flft κ₂ q₂) ∷ rest
+  exits : (r : Parts) → Is K.the-row r (K′.lowered r ∷ []) → PartsOf ys r → ent 𝓤 (⋆ 𝓤 H A (‵ (flft κ q) ∷ ‵ OwnT ∷ [])) (Post (K′.lowered r))
+  exits r is said =
+      qed W (‵ (flft κ q) ∷ ‵ OwnT ∷ []) ∵
+      suffices ! _ (ends-at 𝓤 H A f.ended stayed (f.clauses 𝓤 H A mem run) W (((κ, tt), (q, tt), tt, x, at), tt) (K′.lowered r) r (tt, tt) (tt, tt)) $ says ! said $
+      nothing ! $ move ! (1 ∷ 0 ∷ []) $ join ! $ frame ! $ nothing ! $ move ! (1 ∷ 0 ∷ []) $ fjoin ! $ frame ! $ owned ! K.the-row (Is K.the-row) ((LL.makes K.the-type K′.the-plain) 𝓤 H A) r _ is $ done !
 
-  taken : FitApart n xs ns vs → Apart n xs ns (PN n) vs (PV n)
-  taken fit = record {
-    nodes-are = parts-laid (λ (term : Term). term .node) xs ns n (fit .of-terms) (fit .in-nodes);
-    values-are = parts-laid (λ (term : Term). term .value) xs vs n (fit .of-terms) (fit .in-values);
-  }
+  -- what is passed to the callees
+  abbrev to-count : Count 𝓤 H A mem run .Ghost
+  to-count = ((tt, tt, tt, (n, (1024, tt)), (vint w64 n ∷ [], (vint w64 1024 ∷ [], tt))), tt)
 
-  exits : FitApart n xs ns vs → n < 2 ^ 64 → Room u16 (length ns) → Room i16 (length vs) → ent 𝓤 (⋆ 𝓤 H A (Had n [])) (Post vunit)
-  exits fit gn roomN roomV =
-      qed W (Had n []) ∵
-      suffices ! _ (ends-at 𝓤 H A f.ended stayed (f.clauses 𝓤 H A mem run) W (((κ, (κ₁, (κ₂, tt))), (q, (q₁, (q₂, tt))), tt, x, at), tt) vunit tt (tt, (tt, (PN n, (PV n, tt)))) (tt, (tt, (lenN n, (lenV n, tt))))) $ says ! (taken fit) $
-      nothing ! $ move ! (8 ∷ 0 ∷ []) $ join ! $ move ! (5 ∷ 0 ∷ []) $ join ! $ move ! (2 ∷ 0 ∷ []) $ join ! $ frame ! $
-      move ! (3 ∷ 4 ∷ []) $ fjoin ! $ pureI ! (at-slice i16 (xV (PV n)) (vV ∷ [])) (tt, (tt, tt)) (ap (λ (m : ℕ). sliceVal (b₂, o₂) m ∷ []) (sym (lenV n)), subst (Room i16) (sym (lenV n)) roomV) $ fjoin ! $
-      move ! (2 ∷ 3 ∷ []) $ fjoin ! $ pureI ! (at-slice u16 (xN (PN n)) (vN ∷ [])) (tt, (tt, tt)) (ap (λ (m : ℕ). sliceVal (b₁, o₁) m ∷ []) (sym (lenN n)), subst (Room u16) (sym (lenN n)) roomN) $ fjoin ! $
-      nothing ! $ move ! (2 ∷ 0 ∷ []) $ fjoin ! $ move ! (1 ∷ 0 ∷ []) $ fjoin ! $ owned ! usize (Is usize) (uint-makes 𝓤 H A W w64) n _ (refl, gn) $ fjoin ! $ move ! (1 ∷ 0 ∷ []) $ fjoin ! $ frame ! $
-      feqI ! (List Val) (vunit ∷ []) (vunit ∷ []) refl $ done !
+  goes-count : n < 2 ^ 64 → ent 𝓤 (sem 𝓤 H A ftrue) (Count 𝓤 H A mem run .pre to-count)
+  goes-count gn =
+      qed W (‵ ftrue ∷ []) ∵ nothing ! $ owned ! usize (Is usize) (uint-makes 𝓤 H A W w64) 1024 _ (refl, lit< tt) $ fjoin ! $ owned ! usize (Is usize) (uint-makes 𝓤 H A W w64) n _ (refl, gn) $ fjoin ! $ move ! (1 ∷ 0 ∷ []) $ join ! $ frame ! $ done !
 
-  module _ (𝓣 : Tables 𝓤 H) (roomT : Room T.the-row (length xs)) (gn : n < 2 ^ 64) (roomN : Room u16 (length ns)) (roomV : Room i16 (length vs)) (fit : FitApart n xs ns vs)
-      (l₀ l₁ l₂ l₃ l₄ l₅ l₆ l₇ l₈ l₉ l₁₀ l₁₁ l₁₂ : ℕ) where
+  abbrev to-empty : Empty 𝓤 H A mem run .Ghost
+  to-empty = ((tt, tt, tt, tt, tt), tt)
+
+  goes-empty : ent 𝓤 (sem 𝓤 H A ftrue) (Empty 𝓤 H A mem run .pre to-empty)
+  goes-empty = qed W (‵ ftrue ∷ []) ∵ nothing ! $ join ! $ frame ! $ done !
+
+  abbrev to-out : ℕ → Copy 𝓤 H A mem run .Ghost
+  to-out i = (((κ, tt), (q, tt), tt, (xT, (i, tt)), (vT ∷ [], (vint w64 i ∷ [], tt))), tt)
+
+  goes-out : (i : ℕ) → i < 2 ^ 64 → i < n → ent 𝓤 (sep 𝓤 (A .lft κ q) (sem 𝓤 H A OwnT)) (Copy 𝓤 H A mem run .pre (to-out i))
+  goes-out i gi there =
+      qed W (‵ (flft κ q) ∷ ‵ OwnT ∷ []) ∵ says ! there $ nothing ! $ move ! (1 ∷ 0 ∷ []) $ join ! $ frame ! $
+      nothing ! $ owned ! usize (Is usize) (uint-makes 𝓤 H A W w64) i _ (refl, gi) $ fjoin ! $ move ! (1 ∷ 0 ∷ []) $ fjoin ! $ done !
+
+  -- the term of turn i, whose machine value is right
+  abbrev el : ℕ → Term
+  el i = termAt ys i
+
+  copied : (i : ℕ) (r : Term) (u : Val) → r ≡ el i → Is T.the-row r (u ∷ []) → u ≡ termVal (el i)
+  copied i r u e is = ap only (LL.tells T.the-type T′.the-laws r (u ∷ []) is) ∙ ap termVal e
+
+  right : (i : ℕ) (r : Term) (u : Val) → r ≡ el i → Is T.the-row r (u ∷ []) → Is u16 (el i .node) (natVal (el i .node) ∷ []) × (Is i16 (el i .value) (intVal (el i .value) ∷ []) × Unit {0})
+  right i r u e is = subst (λ (t : Term). Is u16 (t .node) (natVal (t .node) ∷ []) × (Is i16 (t .value) (intVal (t .value) ∷ []) × Unit {0})) e (LL.owed T.the-type T′.the-laws r (u ∷ []) is)
+
+  module _ (𝓣 : Tables 𝓤 H) (known : Known 𝓤 H A mem run (𝓣 .C)) (room : Room T.the-row n) where
     abbrev C : Calls 𝓤 H
     C = 𝓣 .C
 
     abbrev Λ : Loops 𝓤 H
     Λ = 𝓣 .Λ
 
-    abbrev En : Env 𝓤 H
-    En = (tyUnit, l₀) ∷ (sliceT, l₁) ∷ (word, l₂) ∷ (sliceN, l₃) ∷ (sliceV, l₄) ∷ (word, l₅) ∷ (T′.mir, l₆) ∷ (tyBool, l₇) ∷ (word, l₈) ∷ (tyPtr, l₉) ∷ (T′.mir, l₁₀) ∷ (tyPtr, l₁₁) ∷ (tyPtr, l₁₂) ∷ []
+    fm : FmC 𝓤 H (W .laws) C
+    fm = fmOf 𝓤 H (W .laws) 𝓣
 
-    abbrev At : ℕ → List (Item 𝓤)
-    At i = Had i (‵ (fat fullShare sliceT l₁ 0 vT) ∷ ‵ (fat fullShare word l₂ 0 (vint w64 n)) ∷ ‵ (fat fullShare sliceN l₃ 0 vN) ∷ ‵ (fat fullShare sliceV l₄ 0 vV) ∷ ‵ (fat fullShare word l₅ 0 (vint w64 i)) ∷ ‵ (froom T′.mir l₆ 0) ∷ ‵ (froom tyBool l₇ 0) ∷ ‵ (froom word l₈ 0) ∷ ‵ (froom tyPtr l₉ 0) ∷ ‵ (froom T′.mir l₁₀ 0) ∷ ‵ (froom tyPtr l₁₁ 0) ∷ ‵ (froom tyPtr l₁₂ 0) ∷ ‵ (froom tyUnit l₀ 0)
-        ∷ ‵ (fdies tyUnit l₀) ∷ ‵ (fdies sliceT l₁) ∷ ‵ (fdies word l₂) ∷ ‵ (fdies sliceN l₃) ∷ ‵ (fdies sliceV l₄) ∷ ‵ (fdies word l₅) ∷ ‵ (fdies T′.mir l₆) ∷ ‵ (fdies tyBool l₇) ∷ ‵ (fdies word l₈) ∷ ‵ (fdies tyPtr l₉) ∷ ‵ (fdies T′.mir l₁₀) ∷ ‵ (fdies tyPtr l₁₁) ∷ ‵ (fdies tyPtr l₁₂) ∷ [])
+    module _ (m : ℕ) (m-is : m ≡ min n 1024) (gm : m < 2 ^ 64) (rN : List ℕ) (rV : List ℤ) (longN : length rN ≡ 1024) (longV : length rV ≡ 1024)
+        (l₀ l₁ l₂ l₃ l₄ l₅ l₆ l₇ l₈ l₉ l₁₀ l₁₁ l₁₂ l₁₃ l₁₄ l₁₅ l₁₆ : ℕ) where
+      -- the nodes and the values after i stores
+      abbrev PN : ℕ → List ℕ
+      PN i = stored (λ (k : ℕ). termAt ys k .node) rN i
 
-    abbrev Left : Out → SProp 𝓤
-    Left = afterBlock 𝓤 H (afterSeq 𝓤 H (Wp 𝓤 H C Λ En mir′.t-3 (atReturn 𝓤 H En Post)) (atReturn 𝓤 H En Post))
+      abbrev PV : ℕ → List ℤ
+      PV i = stored (λ (k : ℕ). termAt ys k .value) rV i
 
-    parts : (i : ℕ) → Is T.the-row (el i) (termVal (el i) ∷ []) → AreParts (el i)
-    parts i g = LL.owed T.the-type T′.the-laws (el i) (termVal (el i) ∷ []) g
+      lenN : (i : ℕ) → length (PN i) ≡ 1024
+      lenN i = length-stored (λ (k : ℕ). termAt ys k .node) rN i ∙ longN
 
-    -- a turn that takes one term apart
-    turn : (i : ℕ) (X : SProp 𝓤) → i < n → i * 2 < 2 ^ 64 → i * 4 < 2 ^ 64 → i + 1 < 2 ^ 64 → i < length xs → i < length (PN i) → i < length (PV i)
-        → ent 𝓤 (⋆ 𝓤 H A (At (suc i))) X → ent 𝓤 (⋆ 𝓤 H A (At i)) (Wp 𝓤 H C Λ En mir′.turn-1 (afterTurn 𝓤 H X Left))
-    unfolding afterTurn
-    turn i X small fits2 fits4 next inT inN inV k =
-        qed W (At i) ∵ exec ! C Λ En mir′.turn-1 (anyQ (afterTurn 𝓤 H X Left)) $
-        assigns ! (bin ! (load ! (from ! (stop !)) (look ! 12 refl)) (load ! (from ! (stop !)) (look ! 9 refl)) tt) (from ! (stop !)) (init ! 14 refl (tt, tt)) $
-        rewrite ! 14 (λ (t : Bool). ‵ (fat fullShare tyBool l₇ 0 (vbool t))) (lt-ltb i n small) refl $
-        stays ! (load ! (from ! (stop !)) (look ! 14 refl)) $
-        -- terms[i]
-        assigns ! (bin ! (load ! (from ! (stop !)) (look ! 12 refl)) (lit ! tt) (record { fits = fits4 })) (from ! (stop !)) (init ! 15 refl (tt, record { fits = fits4 })) $
-        assigns ! (bin ! (load ! (from ! (fld ! refl (stop !))) (look-in ! 8 (sub ! 0 refl (whole !)))) (load ! (from ! (stop !)) (look ! 15 refl)) tt) (from ! (stop !)) (init ! 16 refl (tt, tt)) $
-        rewrite ! 16 (λ (p : ℕ). ‵ (fat fullShare tyPtr l₉ 0 (vptr b p))) (sym (place-is 4 o i)) refl $
-        fsplit ! $ move ! (1 ∷ []) $ fsplit ! $ move ! (1 ∷ 3 ∷ []) $
-        looks-slice ! tt T.the-row (Is T.the-row) (shows 𝓤 H A T.the-row) termVals (LL.tells T.the-type T′.the-laws) ((LL.copy T.the-type T′.the-copy) 𝓤 H A W) xs b o (λ q′. elem-out ! T.the-row (Is T.the-row) (shows 𝓤 H A T.the-row) termVals (LL.tells T.the-type T′.the-laws) q′ xs i zeroTerm b o inT (λ g.
-        use1 W (‵ (fat q′ T′.mir b (place 4 o i) (termVal (el i)))) (W .laws .raw-at q′ T′.mir b (place 4 o i) (termVal (el i))) $
-        assigns ! (of-opd ! (load ! (from ! (hop ! (look ! 21 refl) (stop !))) (look ! 0 refl))) (from ! (stop !)) (init ! 22 refl (LL.lawful T.the-type T′.the-laws 𝓤 H A W .typed (el i) (termVal (el i) ∷ []) g .0)) $
-        assigns ! (of-opd ! (load ! (from ! (stop !)) (look ! 22 refl))) (from ! (stop !)) (init ! 18 refl (LL.lawful T.the-type T′.the-laws 𝓤 H A W .typed (el i) (termVal (el i) ∷ []) g .0)) $
-        use1 W (‵ (cellAt q′ (T.the-row .mir) (termVal (el i) ∷ []) b (place 4 o i))) (W .laws .at-raw q′ T′.mir b (place 4 o i) (termVal (el i))) $
-        elem-back ! T.the-row q′ xs i zeroTerm (termVal (el i) ∷ []) b o inT $ shuts-slice ! tt T.the-row q′ xs b o $ move ! (2 ∷ 1 ∷ []) $ fjoin ! $ move ! (2 ∷ 0 ∷ []) $ fjoin ! $
-        -- nodes[i] and values[i]
-        assigns ! (bin ! (load ! (from ! (stop !)) (look ! 12 refl)) (lit ! tt) (record { fits = fits2 })) (from ! (stop !)) (store ! 15 refl (tt, record { fits = fits2 })) $
-        assigns ! (bin ! (load ! (from ! (fld ! refl (stop !))) (look-in ! 10 (sub ! 0 refl (whole !)))) (load ! (from ! (stop !)) (look ! 15 refl)) tt) (from ! (stop !)) (init ! 18 refl (tt, tt)) $
-        rewrite ! 18 (λ (p : ℕ). ‵ (fat fullShare tyPtr l₁₁ 0 (vptr b₁ p))) (sym (place-is 2 o₁ i)) refl $
-        move ! (2 ∷ 3 ∷ 4 ∷ []) $ opens-slice ! tt u16 (PN i) b₁ o₁ $ elem-out ! u16 (Is u16) (shows 𝓤 H A u16) (uint-vals w16) (uint-tells w16) fullShare (PN i) i 0 b₁ o₁ inN (λ _.
-        assigns ! (of-opd ! (load ! (from ! (fld ! refl (stop !))) (look-in ! 16 (sub ! 0 refl (whole !))))) (from ! (hop ! (look ! 21 refl) (stop !))) (store ! 0 refl (tt, record { fits = parts i g .0 .1 })) $
-        move ! (1 ∷ []) $ drop ! $ owned ! u16 (Is u16) (uint-makes 𝓤 H A W w16) (el i .node) _ (parts i g .0) $ move ! (1 ∷ 0 ∷ []) $ elem-put ! u16 fullShare (PN i) i (el i .node) (natVal (el i .node) ∷ []) b₁ o₁ inN $ closes-slice ! tt u16 (PN i) (PN (suc i)) (length-set (PN i) i (el i .node)) b₁ o₁ $
-        assigns ! (bin ! (load ! (from ! (stop !)) (look ! 12 refl)) (lit ! tt) (record { fits = fits2 })) (from ! (stop !)) (store ! 15 refl (tt, record { fits = fits2 })) $
-        assigns ! (bin ! (load ! (from ! (fld ! refl (stop !))) (look-in ! 11 (sub ! 0 refl (whole !)))) (load ! (from ! (stop !)) (look ! 15 refl)) tt) (from ! (stop !)) (init ! 19 refl (tt, tt)) $
-        rewrite ! 19 (λ (p : ℕ). ‵ (fat fullShare tyPtr l₁₂ 0 (vptr b₂ p))) (sym (place-is 2 o₂ i)) refl $
-        move ! (5 ∷ 6 ∷ 7 ∷ []) $ opens-slice ! tt i16 (PV i) b₂ o₂ $ elem-out ! i16 (Is i16) (shows 𝓤 H A i16) (sint-vals w16) (sint-tells w16) fullShare (PV i) i (pos 0) b₂ o₂ inV (λ _.
-        assigns ! (of-opd ! (load ! (from ! (fld ! refl (stop !))) (look-in ! 16 (sub ! 1 refl (whole !))))) (from ! (hop ! (look ! 22 refl) (stop !))) (store ! 0 refl (tt, ofZ-fits w16 (el i .value) (record { sfits = parts i g .1 .0 .1 }))) $
-        move ! (1 ∷ []) $ drop ! $ owned ! i16 (Is i16) (sint-makes 𝓤 H A W w16) (el i .value) _ (parts i g .1 .0) $ move ! (1 ∷ 0 ∷ []) $ elem-put ! i16 fullShare (PV i) i (el i .value) (intVal (el i .value) ∷ []) b₂ o₂ inV $ closes-slice ! tt i16 (PV i) (PV (suc i)) (length-set (PV i) i (el i .value)) b₂ o₂ $
-        move ! (6 ∷ 7 ∷ 3 ∷ 4 ∷ 5 ∷ 0 ∷ 1 ∷ 2 ∷ []) $ assigns-last ! (bin ! (load ! (from ! (stop !)) (look ! 12 refl)) (lit ! tt) (record { fits = next })) (from ! (stop !)) (store ! 12 refl (tt, record { fits = next })) $
-        forget ! 13 refl $ forget ! 14 refl $ forget ! 15 refl $ forget ! 16 refl $ forget ! 17 refl $ forget ! 18 refl $ forget ! 19 refl $
-        rewrite ! 12 (λ (j : ℕ). ‵ (fat fullShare word l₅ 0 (vint w64 j))) (add-one i) refl $ by ! k))))
+      lenV : (i : ℕ) → length (PV i) ≡ 1024
+      lenV i = length-stored (λ (k : ℕ). termAt ys k .value) rV i ∙ longV
 
-    more : (i : ℕ) (X : SProp 𝓤) → i < n → ent 𝓤 (⋆ 𝓤 H A (At (suc i))) X → ent 𝓤 (⋆ 𝓤 H A (At i)) (Wp 𝓤 H C Λ En mir′.turn-1 (afterTurn 𝓤 H X Left))
-    more i X small k =
-        let rT : length xs * 4 < 2 ^ 63 = roomT .1 in
-        let allT : n ≤ length xs = fit .of-terms in
-        let allN : n ≤ length ns = fit .in-nodes in
-        let allV : n ≤ length vs = fit .in-values in
-        turn i X small (omega arith) (omega arith) (omega arith) (omega arith) (omega (arith, lenN i)) (omega (arith, lenV i)) k
+      abbrev En : Env 𝓤 H
+      En = (tyK, l₀) ∷ (sliceT, l₁) ∷ (word, l₂) ∷ (tyK, l₃) ∷ (roomTy, l₄) ∷ (roomTy, l₅) ∷ (word, l₆) ∷ (tyT, l₇) ∷ (word, l₈) ∷ (tyBool, l₉) ∷ (word, l₁₀) ∷ (tyPtr, l₁₁) ∷ (tyPtr, l₁₂) ∷ (tyPtr, l₁₃) ∷ (tyPtr, l₁₄) ∷ (roomTy, l₁₅) ∷ (roomTy, l₁₆) ∷ []
 
-    -- the turn that leaves the loop, and the rest of the body
-    ends : (X : SProp 𝓤) → ent 𝓤 (⋆ 𝓤 H A (At n)) (Wp 𝓤 H C Λ En mir′.turn-1 (afterTurn 𝓤 H X Left))
-    unfolding afterTurn
-    ends X =
-        qed W (At n) ∵ exec ! C Λ En mir′.turn-1 (anyQ (afterTurn 𝓤 H X Left)) $
-        assigns ! (bin ! (load ! (from ! (stop !)) (look ! 12 refl)) (load ! (from ! (stop !)) (look ! 9 refl)) tt) (from ! (stop !)) (init ! 14 refl (tt, tt)) $
-        rewrite ! 14 (λ (t : Bool). ‵ (fat fullShare tyBool l₇ 0 (vbool t))) (le-ltb n n (le-refl n)) refl $
-        leaves-loop ! (load ! (from ! (stop !)) (look ! 14 refl)) $ exec ! C Λ En mir′.t-3 (atRet En Post) $
-        assigns ! (of-opd ! (unit-lit !)) (from ! (stop !)) (init ! 20 refl (tt, tt)) $
-        returns ! (look ! 20 refl) $ forget ! 8 refl $ forget ! 9 refl $ forget ! 10 refl $ forget ! 11 refl $ forget ! 12 refl $ forget ! 14 refl $ forget ! 20 refl $
-        move ! (20 ∷ 21 ∷ []) $ free1 ! $ move ! (8 ∷ 20 ∷ []) $ free1 ! $ move ! (8 ∷ 19 ∷ []) $ free1 ! $ move ! (8 ∷ 18 ∷ []) $ free1 ! $ move ! (8 ∷ 17 ∷ []) $ free1 ! $ move ! (8 ∷ 16 ∷ []) $ free1 ! $ move ! (8 ∷ 15 ∷ []) $ free1 ! $ move ! (8 ∷ 14 ∷ []) $ free1 ! $ move ! (8 ∷ 13 ∷ []) $ free1 ! $ move ! (8 ∷ 12 ∷ []) $ free1 ! $ move ! (8 ∷ 11 ∷ []) $ free1 ! $ move ! (8 ∷ 10 ∷ []) $ free1 ! $ move ! (8 ∷ 9 ∷ []) $ free1 ! $ free0 ! $
-        keep ! (0 ∷ 1 ∷ 2 ∷ 3 ∷ 4 ∷ 5 ∷ 6 ∷ 7 ∷ []) $ by ! (exits fit gn roomN roomV)
+      abbrev At : ℕ → List (Item 𝓤)
+      At i = ‵ (row u16 fullShare (PN i) l₄ 0) ∷ ‵ (row i16 fullShare (PV i) l₅ 0) ∷ ‵ (flft κ q) ∷ ‵ OwnT ∷ ‵ (fat fullShare sliceT l₁ 0 vT) ∷ ‵ (fat fullShare word l₂ 0 (vint w64 m)) ∷ ‵ (fat fullShare word l₆ 0 (vint w64 i)) ∷ ‵ (froom tyT l₇ 0) ∷ ‵ (froom tyBool l₉ 0) ∷ ‵ (froom word l₁₀ 0) ∷ ‵ (froom tyPtr l₁₁ 0) ∷ ‵ (froom tyPtr l₁₂ 0) ∷ ‵ (froom tyPtr l₁₃ 0) ∷ ‵ (froom tyPtr l₁₄ 0)
+          ∷ ‵ (froom tyK l₀ 0) ∷ ‵ (froom tyK l₃ 0) ∷ ‵ (froom word l₈ 0) ∷ ‵ (froom roomTy l₁₅ 0) ∷ ‵ (froom roomTy l₁₆ 0)
+          ∷ ‵ (fdies tyK l₀) ∷ ‵ (fdies sliceT l₁) ∷ ‵ (fdies word l₂) ∷ ‵ (fdies tyK l₃) ∷ ‵ (fdies roomTy l₄) ∷ ‵ (fdies roomTy l₅) ∷ ‵ (fdies word l₆) ∷ ‵ (fdies tyT l₇) ∷ ‵ (fdies word l₈) ∷ ‵ (fdies tyBool l₉) ∷ ‵ (fdies word l₁₀) ∷ ‵ (fdies tyPtr l₁₁) ∷ ‵ (fdies tyPtr l₁₂) ∷ ‵ (fdies tyPtr l₁₃) ∷ ‵ (fdies tyPtr l₁₄) ∷ ‵ (fdies roomTy l₁₅) ∷ ‵ (fdies roomTy l₁₆) ∷ []
 
-    loops : ent 𝓤 (⋆ 𝓤 H A (At 0)) (Wp 𝓤 H C Λ En (loop mir′.turn-1) Left)
-    loops = counts 𝓤 H A W 𝓣 En mir′.turn-1 Left n (λ i. ⋆ 𝓤 H A (At i)) more ends
+      abbrev Left : Out → SProp 𝓤
+      Left = afterBlock 𝓤 H (afterSeq 𝓤 H (Wp 𝓤 H C Λ En mir′.t-8 (atReturn 𝓤 H En Post)) (atReturn 𝓤 H En Post))
 
-  walk : (𝓣 : Tables 𝓤 H) → Room T.the-row (length xs) → n < 2 ^ 64 → Room u16 (length ns) → Room i16 (length vs) → FitApart n xs ns vs
-      → ent 𝓤 (onEntry 𝓤 H A f.signature (κ, (κ₁, (κ₂, tt))) (q, (q₁, (q₂, tt))) x at) (WpFn 𝓤 H (𝓣 .C) (𝓣 .Λ) code.function (vT ∷ vint w64 n ∷ vN ∷ vV ∷ []) Post)
-  walk 𝓣 roomT gn roomN roomV fit =
-      qed W ((‵ (flft κ q) ⊛ (‵ (flft κ₁ q₁) ⊛ (‵ (flft κ₂ q₂) ⊛ ‵ ftrue))) ∷ ‵ (owns (ShrSlice (named 0) κ T.the-row ∷ usize ∷ MutSlice (named 1) κ₁ u16 ∷ MutSlice (named 2) κ₂ i16 ∷ []) x at) ∷ []) ∵
-      enter ! (𝓣 .C) (𝓣 .Λ) code.function (vT ∷ vint w64 n ∷ vN ∷ vV ∷ []) _ $
-      alloc1 ! (λ l₀. alloc1 ! (λ l₁. alloc1 ! (λ l₂. alloc1 ! (λ l₃. alloc1 ! (λ l₄. alloc1 ! (λ l₅. alloc1 ! (λ l₆. alloc1 ! (λ l₇. alloc1 ! (λ l₈. alloc1 ! (λ l₉. alloc1 ! (λ l₁₀. alloc1 ! (λ l₁₁. alloc1 ! (λ l₁₂. alloc0 ! $ params1 ! $
-      pass1 ! (init ! 22 refl (tt, (tt, (record { fits = roomT .0 }, tt)))) $ pass1 ! (init ! 20 refl (tt, record { fits = gn })) $ pass1 ! (init ! 18 refl (tt, (tt, (record { fits = roomN .0 }, tt)))) $ pass1 ! (init ! 16 refl (tt, (tt, (record { fits = roomV .0 }, tt)))) $ pass0 ! $
-      assigns ! (of-opd ! (lit ! tt)) (from ! (stop !)) (init ! 14 refl (tt, record { fits = lit< tt })) $
-      move ! (26 ∷ []) $ split ! $ move ! (1 ∷ []) $ split ! $ move ! (1 ∷ []) $ split ! $ move ! (30 ∷ []) $ fsplit ! $ move ! (1 ∷ []) $ fsplit ! $ move ! (1 ∷ []) $ fsplit ! $ move ! (1 ∷ []) $ fsplit ! $ move ! (2 ∷ []) $ fsplit ! $ move ! (1 ∷ []) $ fsplit ! $ move ! (3 ∷ []) $ fsplit ! $ move ! (1 ∷ []) $ fsplit ! $ keep ! (8 ∷ 12 ∷ 3 ∷ 4 ∷ 11 ∷ 0 ∷ 1 ∷ 9 ∷ 35 ∷ 33 ∷ 31 ∷ 29 ∷ 27 ∷ 25 ∷ 23 ∷ 21 ∷ 19 ∷ 17 ∷ 15 ∷ 13 ∷ 37 ∷ 38 ∷ 36 ∷ 34 ∷ 32 ∷ 30 ∷ 28 ∷ 26 ∷ 24 ∷ 22 ∷ 20 ∷ 18 ∷ 16 ∷ 14 ∷ []) $
-      by ! (loops 𝓣 roomT gn roomN roomV fit l₀ l₁ l₂ l₃ l₄ l₅ l₆ l₇ l₈ l₉ l₁₀ l₁₁ l₁₂))))))))))))))
+      -- a turn that takes one term apart
+      turn : (i : ℕ) (X : SProp 𝓤) → i < m → i < 2 ^ 64 → i * 2 < 2 ^ 64 → i + 1 < 2 ^ 64 → i < n → i < length (PN i) → i < length (PV i)
+          → ent 𝓤 (⋆ 𝓤 H A (At (suc i))) X → ent 𝓤 (⋆ 𝓤 H A (At i)) (Wp 𝓤 H C Λ En mir′.turn-1 (afterTurn 𝓤 H X Left))
+      unfolding afterTurn
+      turn i X small gi fits2 next inT inN inV k =
+          qed W (At i) ∵ exec ! C Λ En mir′.turn-1 (anyQ (afterTurn 𝓤 H X Left)) $
+          assigns ! (bin ! (load ! (from ! (stop !)) (look ! 6 refl)) (load ! (from ! (stop !)) (look ! 5 refl)) tt) (from ! (stop !)) (init ! 8 refl (tt, tt)) $
+          rewrite ! 8 (λ (t : Bool). ‵ (fat fullShare tyBool l₉ 0 (vbool t))) (lt-ltb i m small) refl $
+          stays ! (load ! (from ! (stop !)) (look ! 8 refl)) $
+          -- term_out(terms, i)
+          move ! (3 ∷ []) $ use1 W (‵ OwnT ⊛ ‵ OwnT) (shr-slice-copy 𝓤 H A W (named 0) κ T.the-row .twice xT (vT ∷ [])) $ split ! $ move ! (4 ∷ 0 ∷ []) $ use2 W (raw (Copy 𝓤 H A mem run .pre (to-out i))) (goes-out i gi inT) $
+          answers ! fm out.ended (out.clauses 𝓤 H A mem run) (known .copies-out) (to-out i) (‵ (flft κ q) ⊛ ‵ ftrue) (id⊢ 𝓤 _) (λ r _. r ≡ el i) (λ r ws. id⊢ 𝓤 _) (and-then ! (load ! (from ! (stop !)) (look ! 4 refl)) (and-then ! (load ! (from ! (stop !)) (look ! 6 refl)) (no-more !))) (λ u r ws e is.
+          split ! $ move ! (1 ∷ 2 ∷ 3 ∷ []) $ drop ! $ drop ! $ drop ! $ land ! (from ! (stop !)) (init ! 7 refl (LL.lawful T.the-type T′.the-laws 𝓤 H A W .typed r _ is .0)) $
+          rewrite ! 7 (λ (v : Val). ‵ (fat fullShare tyT l₇ 0 v)) (copied i r u e is) refl $
+          -- nodes[i]
+          assigns ! (bin ! (load ! (from ! (stop !)) (look ! 6 refl)) (lit ! tt) (record { fits = fits2 })) (from ! (stop !)) (init ! 9 refl (tt, record { fits = fits2 })) $
+          assigns ! (addr ! (from ! (stop !))) (from ! (stop !)) (init ! 10 refl (tt, tt)) $
+          assigns ! (bin ! (load ! (from ! (stop !)) (look ! 10 refl)) (load ! (from ! (stop !)) (look ! 9 refl)) tt) (from ! (stop !)) (init ! 11 refl (tt, tt)) $
+          rewrite ! 11 (λ (p : ℕ). ‵ (fat fullShare tyPtr l₁₂ 0 (vptr l₄ p))) (sym (place-is 2 0 i)) refl $
+          move ! (2 ∷ []) $ elem-out ! u16 (Is u16) (shows 𝓤 H A u16) (uint-vals w16) (uint-tells w16) fullShare (PN i) i 0 l₄ 0 inN (λ _.
+          assigns ! (of-opd ! (load ! (from ! (fld ! refl (stop !))) (look-in ! 9 (sub ! 0 refl (whole !))))) (from ! (hop ! (look ! 13 refl) (stop !))) (store ! 0 refl (tt, record { fits = right i r u e is .0 .1 })) $
+          move ! (1 ∷ []) $ drop ! $ owned ! u16 (Is u16) (uint-makes 𝓤 H A W w16) (el i .node) _ (right i r u e is .0) $ move ! (1 ∷ 0 ∷ []) $ elem-put ! u16 fullShare (PN i) i (el i .node) (natVal (el i .node) ∷ []) l₄ 0 inN $
+          -- values[i]
+          assigns ! (bin ! (load ! (from ! (stop !)) (look ! 6 refl)) (lit ! tt) (record { fits = fits2 })) (from ! (stop !)) (store ! 9 refl (tt, record { fits = fits2 })) $
+          assigns ! (addr ! (from ! (stop !))) (from ! (stop !)) (init ! 12 refl (tt, tt)) $
+          assigns ! (bin ! (load ! (from ! (stop !)) (look ! 12 refl)) (load ! (from ! (stop !)) (look ! 9 refl)) tt) (from ! (stop !)) (init ! 13 refl (tt, tt)) $
+          rewrite ! 13 (λ (p : ℕ). ‵ (fat fullShare tyPtr l₁₄ 0 (vptr l₅ p))) (sym (place-is 2 0 i)) refl $
+          move ! (3 ∷ []) $ elem-out ! i16 (Is i16) (shows 𝓤 H A i16) (sint-vals w16) (sint-tells w16) fullShare (PV i) i (pos 0) l₅ 0 inV (λ _.
+          assigns ! (of-opd ! (load ! (from ! (fld ! refl (stop !))) (look-in ! 9 (sub ! 1 refl (whole !))))) (from ! (hop ! (look ! 15 refl) (stop !))) (store ! 0 refl (tt, ofZ-fits w16 (el i .value) (record { sfits = right i r u e is .1 .0 .1 }))) $
+          move ! (1 ∷ []) $ drop ! $ owned ! i16 (Is i16) (sint-makes 𝓤 H A W w16) (el i .value) _ (right i r u e is .1 .0) $ move ! (1 ∷ 0 ∷ []) $ elem-put ! i16 fullShare (PV i) i (el i .value) (intVal (el i .value) ∷ []) l₅ 0 inV $
+          move ! (1 ∷ 0 ∷ []) $ assigns-last ! (bin ! (load ! (from ! (stop !)) (look ! 6 refl)) (lit ! tt) (record { fits = next })) (from ! (stop !)) (store ! 6 refl (tt, record { fits = next })) $
+          forget ! 7 refl $ forget ! 8 refl $ forget ! 9 refl $ forget ! 10 refl $ forget ! 11 refl $ forget ! 12 refl $ forget ! 13 refl $
+          rewrite ! 6 (λ (j : ℕ). ‵ (fat fullShare word l₆ 0 (vint w64 j))) (add-one i) refl $ by ! k)))
 
-module _ {M : Type 1} (𝓤 : URA M) (H : Heap 𝓤) (A : Atoms 𝓤) (W : Given 𝓤 H A) (mem : Memory → SProp 𝓤) (run : Routine → Fun 𝓤) (𝓣 : Tables 𝓤 H) where
+      more : (i : ℕ) (X : SProp 𝓤) → i < m → ent 𝓤 (⋆ 𝓤 H A (At (suc i))) X → ent 𝓤 (⋆ 𝓤 H A (At i)) (Wp 𝓤 H C Λ En mir′.turn-1 (afterTurn 𝓤 H X Left))
+      more i X small k = turn i X small (omega arith) (omega arith) (omega arith) (omega arith) (omega (arith, lenN i)) (omega (arith, lenV i)) k
+
+      abbrev made : Parts
+      made = record { count = m; nodes = PN m; values = PV m }
+
+      taken : PartsOf ys made
+      taken = parts-of-terms ys m m-is rN (PN m) rV (PV m) (parts-laid (λ (term : Term). term .node) ys rN m (omega arith) (omega arith)) (parts-laid (λ (term : Term). term .value) ys rV m (omega arith) (omega arith)) (lenN m) (lenV m)
+
+      -- the turn that leaves the loop, and the rest of the body
+      ends : (X : SProp 𝓤) → ent 𝓤 (⋆ 𝓤 H A (At m)) (Wp 𝓤 H C Λ En mir′.turn-1 (afterTurn 𝓤 H X Left))
+      unfolding afterTurn
+      ends X =
+          qed W (At m) ∵ exec ! C Λ En mir′.turn-1 (anyQ (afterTurn 𝓤 H X Left)) $
+          assigns ! (bin ! (load ! (from ! (stop !)) (look ! 6 refl)) (load ! (from ! (stop !)) (look ! 5 refl)) tt) (from ! (stop !)) (init ! 8 refl (tt, tt)) $
+          rewrite ! 8 (λ (t : Bool). ‵ (fat fullShare tyBool l₉ 0 (vbool t))) (le-ltb m m (le-refl m)) refl $
+          leaves-loop ! (load ! (from ! (stop !)) (look ! 8 refl)) $ exec ! C Λ En mir′.t-8 (atRet En Post) $
+          -- the rows are arrays again
+          use1 W (‵ (fat fullShare roomTy l₄ 0 (natsVal (PN m))) ⊛ ‵ (Array u16 1024 .own (PN m) (natsVal (PN m) ∷ []))) (nodes-array 𝓤 H A W (PN m) l₄ (lenN m)) $ split ! $ move ! (1 ∷ []) $ peeks ! (Array u16 1024) (Is (Array u16 1024)) (shows 𝓤 H A (Array u16 1024)) (PN m) (natsVal (PN m) ∷ []) (λ isN. drop ! $ move ! (1 ∷ []) $
+          use1 W (‵ (fat fullShare roomTy l₅ 0 (intsVal (PV m))) ⊛ ‵ (Array i16 1024 .own (PV m) (intsVal (PV m) ∷ []))) (values-array 𝓤 H A W (PV m) l₅ (lenV m)) $ split ! $ move ! (1 ∷ []) $ peeks ! (Array i16 1024) (Is (Array i16 1024)) (shows 𝓤 H A (Array i16 1024)) (PV m) (intsVal (PV m) ∷ []) (λ isV. drop ! $
+          assigns ! (of-opd ! (load ! (from ! (stop !)) (look ! 1 refl))) (from ! (stop !)) (init ! 17 refl (nodes-typed 𝓤 H A W (PN m) (natsVal (PN m)) isN)) $
+          assigns ! (of-opd ! (load ! (from ! (stop !)) (look ! 0 refl))) (from ! (stop !)) (init ! 18 refl (values-typed 𝓤 H A W (PV m) (intsVal (PV m)) isV)) $
+          assigns ! (agg ! (and-then ! (load ! (from ! (stop !)) (look ! 5 refl)) (and-then ! (load ! (from ! (stop !)) (look ! 17 refl)) (and-then ! (load ! (from ! (stop !)) (look ! 18 refl)) (no-more !))))) (from ! (stop !)) (init ! 14 refl (LL.lawful K.the-type K′.the-laws 𝓤 H A W .typed made (K′.lowered made ∷ []) (right-parts made (refl, gm) isN isV) .0)) $
+          returns ! (look ! 14 refl) $ forget ! 0 refl $ forget ! 1 refl $ forget ! 4 refl $ forget ! 5 refl $ forget ! 6 refl $ forget ! 8 refl $ forget ! 14 refl $ forget ! 17 refl $ forget ! 18 refl $
+          move ! (14 ∷ 19 ∷ []) $ free1 ! $ move ! (4 ∷ 18 ∷ []) $ free1 ! $ move ! (4 ∷ 17 ∷ []) $ free1 ! $ move ! (12 ∷ 16 ∷ []) $ free1 ! $ move ! (1 ∷ 15 ∷ []) $ free1 ! $ move ! (0 ∷ 14 ∷ []) $ free1 ! $ move ! (2 ∷ 13 ∷ []) $ free1 ! $ move ! (2 ∷ 12 ∷ []) $ free1 ! $ move ! (8 ∷ 11 ∷ []) $ free1 ! $ move ! (2 ∷ 10 ∷ []) $ free1 ! $ move ! (2 ∷ 9 ∷ []) $ free1 ! $ move ! (2 ∷ 8 ∷ []) $ free1 ! $ move ! (2 ∷ 7 ∷ []) $ free1 ! $ move ! (2 ∷ 6 ∷ []) $ free1 ! $ move ! (2 ∷ 5 ∷ []) $ free1 ! $ move ! (2 ∷ 4 ∷ []) $ free1 ! $ move ! (2 ∷ 3 ∷ []) $ free1 ! $ free0 ! $
+          by ! (exits made (right-parts made (refl, gm) isN isV) taken)))
+
+      loops : ent 𝓤 (⋆ 𝓤 H A (At 0)) (Wp 𝓤 H C Λ En (loop mir′.turn-1) Left)
+      loops = counts 𝓤 H A W 𝓣 En mir′.turn-1 Left m (λ i. ⋆ 𝓤 H A (At i)) more ends
+
+    walk : ent 𝓤 (onEntry 𝓤 H A f.signature (κ, tt) (q, tt) x at) (WpFn 𝓤 H C Λ code.function (vT ∷ []) Post)
+    walk =
+        qed W ((‵ (flft κ q) ⊛ ‵ ftrue) ∷ ‵ (owns (ShrSlice (named 0) κ T.the-row ∷ []) x at) ∷ []) ∵ split ! $ move ! (2 ∷ []) $ fsplit ! $ keep ! (2 ∷ 0 ∷ []) $ enter ! C Λ code.function (vT ∷ []) _ $
+        alloc1 ! (λ l₀. alloc1 ! (λ l₁. alloc1 ! (λ l₂. alloc1 ! (λ l₃. alloc1 ! (λ l₄. alloc1 ! (λ l₅. alloc1 ! (λ l₆. alloc1 ! (λ l₇. alloc1 ! (λ l₈. alloc1 ! (λ l₉. alloc1 ! (λ l₁₀. alloc1 ! (λ l₁₁. alloc1 ! (λ l₁₂. alloc1 ! (λ l₁₃. alloc1 ! (λ l₁₄. alloc1 ! (λ l₁₅. alloc1 ! (λ l₁₆. alloc0 ! $ params1 ! $
+        pass1 ! (init ! 30 refl (tt, (tt, (record { fits = room .0 }, tt)))) $ pass0 ! $
+        assigns ! (of-opd ! (load ! (from ! (fld ! refl (stop !))) (look-in ! 30 (sub ! 1 refl (whole !))))) (from ! (stop !)) (init ! 16 refl (tt, record { fits = room .0 })) $
+        nothing ! $ use1 W (raw (Count 𝓤 H A mem run .pre to-count)) (goes-count (room .0)) $
+        answers ! fm count.ended (count.clauses 𝓤 H A mem run) (known .counts-terms) to-count (‵ ftrue) (id⊢ 𝓤 _) (λ m _. m ≡ min n 1024) (λ m ws. id⊢ 𝓤 _) (and-then ! (load ! (from ! (stop !)) (look ! 17 refl)) (and-then ! (number ! (record { fits = lit< tt })) (no-more !))) (λ uC m _ m-is isC. drop ! $ drop ! $ drop ! $
+        land ! (from ! (stop !)) (init ! 28 refl (uint-lawful 𝓤 H A W w64 .typed m _ isC .0)) $ rewrite ! 28 (λ (v : Val). ‵ (fat fullShare word l₂ 0 v)) (ap only (isC .0)) refl $
+        nothing ! $ use1 W (raw (Empty 𝓤 H A mem run .pre to-empty)) goes-empty $
+        answers ! fm empty.ended (empty.clauses 𝓤 H A mem run) (known .makes-room) to-empty (‵ ftrue) (id⊢ 𝓤 _) (λ r _. r .count ≡ 0) (λ r ws. id⊢ 𝓤 _) (no-more !) (λ u r _ _ is. drop ! $ drop ! $ drop ! $
+        land ! (from ! (stop !)) (init ! 26 refl (LL.lawful K.the-type K′.the-laws 𝓤 H A W .typed r _ is .0)) $ rewrite ! 26 (λ (v : Val). ‵ (fat fullShare tyK l₃ 0 v)) (ap only (K′.lowers .val-is r (u ∷ []) is)) refl $
+        assigns ! (of-opd ! (load ! (from ! (fld ! refl (stop !))) (look-in ! 26 (sub ! 1 refl (whole !))))) (from ! (stop !)) (init ! 24 refl (nodes-typed 𝓤 H A W (r .nodes) (natsVal (r .nodes)) (nodes-right r (u ∷ []) is))) $
+        assigns ! (of-opd ! (load ! (from ! (fld ! refl (stop !))) (look-in ! 26 (sub ! 2 refl (whole !))))) (from ! (stop !)) (init ! 22 refl (values-typed 𝓤 H A W (r .values) (intsVal (r .values)) (values-right r (u ∷ []) is))) $
+        assigns ! (of-opd ! (lit ! tt)) (from ! (stop !)) (init ! 20 refl (tt, record { fits = lit< tt })) $ forget ! 16 refl $ forget ! 26 refl $
+        -- the arrays are rows
+        move ! (24 ∷ []) $ use1 W (‵ (row u16 fullShare (r .nodes) l₄ 0)) (nodes-row 𝓤 H A W (r .nodes) (natsVal (r .nodes)) l₄ (nodes-right r (u ∷ []) is)) $ move ! (23 ∷ []) $ use1 W (‵ (row i16 fullShare (r .values) l₅ 0)) (values-row 𝓤 H A W (r .values) (intsVal (r .values)) l₅ (values-right r (u ∷ []) is)) $
+        keep ! (1 ∷ 0 ∷ 34 ∷ 35 ∷ 30 ∷ 28 ∷ 22 ∷ 20 ∷ 16 ∷ 14 ∷ 12 ∷ 10 ∷ 8 ∷ 6 ∷ 32 ∷ 26 ∷ 18 ∷ 4 ∷ 2 ∷ 33 ∷ 31 ∷ 29 ∷ 27 ∷ 25 ∷ 24 ∷ 23 ∷ 21 ∷ 19 ∷ 17 ∷ 15 ∷ 13 ∷ 11 ∷ 9 ∷ 7 ∷ 5 ∷ 3 ∷ []) $
+        by ! (loops m m-is (isC .1) (r .nodes) (r .values) (nodes-long (r .nodes) (natsVal (r .nodes)) (nodes-right r (u ∷ []) is)) (values-long (r .values) (intsVal (r .values)) (values-right r (u ∷ []) is)) l₀ l₁ l₂ l₃ l₄ l₅ l₆ l₇ l₈ l₉ l₁₀ l₁₁ l₁₂ l₁₃ l₁₄ l₁₅ l₁₆))))))))))))))))))))
+
+module _ {M : Type 1} (𝓤 : URA M) (H : Heap 𝓤) (A : Atoms 𝓤) (W : Given 𝓤 H A) (mem : Memory → SProp 𝓤) (run : Routine → Fun 𝓤) (𝓣 : Tables 𝓤 H) (known : Known 𝓤 H A mem run (𝓣 .C)) where
   walks : Walks 𝓤 H A f.ended stayed (WpFn 𝓤 H (𝓣 .C) (𝓣 .Λ) code.function) (f.clauses 𝓤 H A mem run)
-  walks = walked 𝓤 H A f.ended stayed (f.clauses 𝓤 H A mem run) (WpFn 𝓤 H (𝓣 .C) (𝓣 .Λ) code.function) (λ κs. (slice-vals, (uint-vals w64, (slice-vals, (slice-vals, tt))))) (λ κs. (shr-slice-tells (named 0) (κs .0) T.the-row, (uint-tells w64, (mut-slice-tells (named 1) (κs .1 .0) u16, (mut-slice-tells (named 2) (κs .1 .1 .0) i16, tt)))))
-      (λ κs qs bounds a g are. needs 𝓤 (FitApart (a .1 .0) (now (a .0)) (now (a .1 .1 .0)) (now (a .1 .1 .1 .0))) _
-      (walk 𝓤 H A W mem run (κs .0) (κs .1 .0) (κs .1 .1 .0) (qs .0) (qs .1 .0) (qs .1 .1 .0) (a .0 .ptr .0) (a .0 .ptr .1) (a .0 .name) (a .0 .now) (a .1 .0) (a .1 .1 .0 .ptr .0) (a .1 .1 .0 .ptr .1) (a .1 .1 .0 .name) (a .1 .1 .0 .now) (a .1 .1 .1 .0 .ptr .0) (a .1 .1 .1 .0 .ptr .1) (a .1 .1 .1 .0 .name) (a .1 .1 .1 .0 .now)
-      𝓣 (are .0 .0 .1) (are .1 .0 .1) (are .1 .1 .0 .0 .1) (are .1 .1 .1 .0 .0 .1)))
+  walks = walked 𝓤 H A f.ended stayed (f.clauses 𝓤 H A mem run) (WpFn 𝓤 H (𝓣 .C) (𝓣 .Λ) code.function) (λ κs. (slice-vals, tt)) (λ κs. (shr-slice-tells (named 0) (κs .0) T.the-row, tt))
+      (λ κs qs bounds a g are. via 𝓤 _ (fst∗ 𝓤 _ (emp 𝓤)) (walk 𝓤 H A W mem run (κs .0) (qs .0) (a .0 .ptr .0) (a .0 .ptr .1) (a .0 .name) (a .0 .now) 𝓣 known (are .0 .0 .1)))
 
   meets : Meets 𝓤 H A f.signature (WpFn 𝓤 H (𝓣 .C) (𝓣 .Λ) code.function) (f.spec 𝓤 H A mem run)
-  meets = walk-meets 𝓤 H A f.ended stayed W
-      (goes-none-slice 𝓤 H A W 3 (0 ∷ []) tt (plain (λ _. T.the-row)) yes, (goes-none 𝓤 H A W 3 (λ _. usize) yes (λ κs x f. refl), (goes-slice 𝓤 H A W 3 1 tt (plain (λ _. u16)), (goes-slice 𝓤 H A W 3 2 tt (plain (λ _. i16)), tt))))
-      (f.clauses 𝓤 H A mem run) (WpFn 𝓤 H (𝓣 .C) (𝓣 .Λ) code.function) (WpFn-mono 𝓤 H (W .laws) 𝓣 code.function) walks
+  meets = walk-meets 𝓤 H A f.ended stayed W (goes-none-slice 𝓤 H A W 1 (0 ∷ []) tt (plain (λ _. T.the-row)) yes, tt) (f.clauses 𝓤 H A mem run) (WpFn 𝓤 H (𝓣 .C) (𝓣 .Λ) code.function) (WpFn-mono 𝓤 H (W .laws) 𝓣 code.function) walks
 
 pub take-apart-spec : {M : Type 1} → stated.statement M
 unfolding code.routine tablesOf
 take-apart-spec 𝓤 H 𝓜 𝓖 𝓡 =
     entered 𝓤 H (tripleOf 𝓤 H (𝓖 .A) f.signature (f.spec 𝓤 H (𝓖 .A) (𝓜 .mem) (𝓡 .run)))
     (tables 𝓤 H 𝓜 𝓡 code.env .C) (tables 𝓤 H 𝓜 𝓡 code.env .Λ) #synopsis·take-apart code.function (code.unfolded 𝓤 H 𝓜 𝓡)
-    (meets 𝓤 H (𝓖 .A) (givenOf 𝓤 H 𝓜 𝓖) (𝓜 .mem) (𝓡 .run) (tablesOf 𝓤 H 𝓜 (tables 𝓤 H 𝓜 𝓡 code.env)))
+    (meets 𝓤 H (𝓖 .A) (givenOf 𝓤 H 𝓜 𝓖) (𝓜 .mem) (𝓡 .run) (tablesOf 𝓤 H 𝓜 (tables 𝓤 H 𝓜 𝓡 code.env)) record {
+      counts-terms = cited 𝓤 H (Count 𝓤 H (𝓖 .A) (𝓜 .mem) (𝓡 .run)) 𝓜 𝓡 code.env #windows·smaller count-def.routine code.calls-windows·smaller (count-thm.met 𝓤 H 𝓜 𝓖 𝓡);
+      makes-room = cited 𝓤 H (Empty 𝓤 H (𝓖 .A) (𝓜 .mem) (𝓡 .run)) 𝓜 𝓡 code.env #synopsis·empty-room empty-def.routine code.calls-synopsis·empty-room (empty-thm.met 𝓤 H 𝓜 𝓖 𝓡);
+      copies-out = cited 𝓤 H (Copy 𝓤 H (𝓖 .A) (𝓜 .mem) (𝓡 .run)) 𝓜 𝓡 code.env #synopsis·term-out out-def.routine code.calls-synopsis·term-out (out-thm.met 𝓤 H 𝓜 𝓖 𝓡);
+    })

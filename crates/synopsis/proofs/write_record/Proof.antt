@@ -1,20 +1,20 @@
--- `synopsis::write_record` meets its contract: a walk of its MIR, by hand. `parts_of` takes the terms apart, and `write_record_of_parts`, which is covered, has their parts.
-use Rattle.synopsis.proofs.Walk.{_≡_, refl, ℕ, List, [], _∷_, length, URA, named, w64, w32, Val, vint, ofZ, SProp, ent, via, sep, id⊢, fst∗, emp, Lft, GName, Share, ftrue, flft, Fml, Memory, Routine, Heap, Calls, Loops, WpFn, Tables, Atoms, sem, Fun, fact, givenOf, tables, tablesOf, Given, ‵, _⊛_, ⋆, _$_, _∵_, !, qed, by, move, keep, use1, split, join, fsplit, fjoin, suffices, frame, done, drop, raw, some, later, use2, pick, feqL, await, whole, sub, look-in, agg, look, init, forget, stop, hop, fld, from, load, assigns, returns, enter, alloc1, alloc0, params1, pass1, pass0, free1, free0, and-then, no-more, addr, land, WpFn-mono, FmC, fmOf, owns, Is, shows, uint-vals, uint-tells, uint-makes, RefT, now, sliceVal, ShrSlice, Room, slice-vals, shr-slice-tells, MutSlice, mut-slice-tells, finally, shr-slice-copy, plain, usize, u8, i32, nothing, owned, peeks, heard, Vals, onEntry, Meets, tripleOf, entered, cited, says, Stays, stay-none-slice, stay-none, walkOf, Walks, ends-at, walked, goes-none-slice, goes-none, walk-meets, gave-slice, goes-gave-slice, yes, ℤ, ofZ-fits, sint-vals, sint-tells, sint-makes, Contract, Triple, calls-at, ensured, lasts}
+-- `synopsis::write_record` meets its contract: a walk of its MIR, by hand. `take_apart` has the terms, and `write_record_of_parts`, which is covered, has their parts.
+use Rattle.synopsis.proofs.Walk.{_≡_, refl, ℕ, List, [], _∷_, length, URA, named, w64, w32, Val, vint, ofZ, SProp, ent, via, sep, id⊢, fst∗, emp, Lft, GName, Share, ftrue, flft, Fml, Memory, Routine, Heap, Calls, Loops, WpFn, Tables, Atoms, sem, Fun, givenOf, tables, tablesOf, Given, ‵, _⊛_, ⋆, _$_, _∵_, !, qed, by, move, keep, split, join, fsplit, fjoin, suffices, frame, done, drop, raw, use2, whole, sub, look-in, agg, look, init, forget, stop, hop, fld, from, load, assigns, returns, enter, alloc1, alloc0, params1, pass1, pass0, free1, free0, and-then, no-more, addr, land, WpFn-mono, FmC, fmOf, owns, Is, uint-vals, uint-tells, uint-makes, RefT, now, sliceVal, ShrSlice, Room, slice-vals, shr-slice-tells, MutSlice, mut-slice-tells, finally, plain, usize, u8, i32, nothing, owned, Vals, onEntry, Meets, tripleOf, entered, cited, says, Stays, stay-none-slice, stay-none, walkOf, Walks, ends-at, walked, goes-none-slice, goes-none, walk-meets, gave-slice, goes-gave-slice, yes, ℤ, ofZ-fits, sint-vals, sint-tells, sint-makes, Contract, Triple}
 use denote.Struct.Laws as LL
 use Rattle.record.specs.Answers.{RecordWritten}
 use Rattle.record_write.specs.declared.WriteAnswer.{WriteAnswer}
 use Rattle.record_write.proofs.WriteAnswer as Q
 use Rattle.record_write.proofs.WriteAnswer.Laws as Q′
-use Rattle.synopsis.proofs.StandIn.{record-written}
+use Rattle.synopsis.proofs.Answering.{Of, answers, lasting}
+use Rattle.synopsis.proofs.Many.{record-written}
 use Rattle.synopsis.specs.declared.Parts.{Parts}
-use Rattle.synopsis.specs.Inner.{Within, PartsOf, termsOf}
-use Rattle.synopsis.proofs.Callees.{Take, to-take, goes-take}
+use Rattle.synopsis.specs.Inner.{Within, termsOf}
+use Rattle.synopsis.proofs.Callees.{Take, takes}
 use Rattle.synopsis.proofs.Parts as K
 use Rattle.synopsis.proofs.Parts.Laws as K′
-use Rattle.synopsis.proofs.parts_of as taken
-use Rattle.synopsis.proofs.parts_of.Symbol as taken-def
-use Rattle.synopsis.proofs.parts_of.Symbol.{name as #synopsis·parts-of}
-use Rattle.synopsis.proofs.parts_of.Met as taken-thm
+use Rattle.synopsis.proofs.take_apart.Symbol as taken-def
+use Rattle.synopsis.proofs.take_apart.Symbol.{name as #synopsis·take-apart}
+use Rattle.synopsis.proofs.take_apart.Met as taken-thm
 use Rattle.synopsis.proofs.write_record_of_parts as work
 use Rattle.synopsis.proofs.write_record_of_parts.Symbol as work-def
 use Rattle.synopsis.proofs.write_record_of_parts.Symbol.{name as #synopsis·write-record-of-parts}
@@ -29,12 +29,9 @@ use Rattle.synopsis.proofs.write_record.Code as code
 abbrev stayed : Stays (f.ended .signature .params) (f.ended .kept)
 stayed = (stay-none (λ _. usize) yes, (stay-none (λ _. i32) yes, (stay-none (λ _. i32) yes, (stay-none-slice (0 ∷ []) tt (plain (λ _. T.the-row)) yes, (gave-slice (1 ∷ []) tt (plain (λ _. u8)), tt)))))
 
-abbrev WorkLasts : Type 0
-WorkLasts = Unit {0} × (Unit {0} × (Unit {0} × (Unit {0} × (List ℕ × Unit {0}))))
-
 module _ {M : Type 1} (𝓤 : URA M) (H : Heap 𝓤) (A : Atoms 𝓤) (mem : Memory → SProp 𝓤) (run : Routine → Fun 𝓤) where
   abbrev Work : Contract 𝓤
-  Work = tripleOf 𝓤 H A work.signature (work.spec 𝓤 H A mem run)
+  Work = Of 𝓤 H A work.ended (work.clauses 𝓤 H A mem run)
 
 module _ {M : Type 1} (𝓤 : URA M) (H : Heap 𝓤) (A : Atoms 𝓤) (W : Given 𝓤 H A) (mem : Memory → SProp 𝓤) (run : Routine → Fun 𝓤) (κ κ₁ : Lft) (q q₁ : Share)
     (slots : ℕ) (band : ℤ) (rest : ℤ) (b o : ℕ) (γ : GName) (ys : List Term) (b₁ o₁ : ℕ) (γ₁ : GName) (zs : List ℕ) where
@@ -75,25 +72,16 @@ module _ {M : Type 1} (𝓤 : URA M) (H : Heap 𝓤) (A : Atoms 𝓤) (W : Given
   abbrev Said : List Term → WriteAnswer → List ℕ → Type 0
   Said terms a after = RecordWritten slots band rest terms (a .refusal) (a .count) zs after
 
-  exits : (a : WriteAnswer) (w : Val) → (zs′ : List ℕ) → length zs′ ≡ length zs → Is usize slots (vint w64 slots ∷ []) → Is i32 band (vint w32 (ofZ w32 band) ∷ []) → Is i32 rest (vint w32 (ofZ w32 rest) ∷ []) → Said ys a zs′ → ent 𝓤 (⋆ 𝓤 H A (‵ (Q.the-row .own a (w ∷ [])) ∷ ‵ (flft κ q) ∷ ‵ (flft κ₁ q₁) ∷ ‵ OwnT ∷ ‵ (finally u8 γ₁ zs′) ∷ [])) (Post w)
+  exits : (a : WriteAnswer) (w : Val) → (zs′ : List ℕ) → length zs′ ≡ length zs → Is usize slots (vint w64 slots ∷ []) → Is i32 band (vint w32 (ofZ w32 band) ∷ []) → Is i32 rest (vint w32 (ofZ w32 rest) ∷ []) → Said ys a zs′ → ent 𝓤 (⋆ 𝓤 H A (‵ (flft κ₁ q₁) ∷ ‵ (finally u8 γ₁ zs′) ∷ ‵ (Q.the-row .own a (w ∷ [])) ∷ ‵ (flft κ q) ∷ ‵ OwnT ∷ [])) (Post w)
   exits a w zs′ lz is-slots is-band is-rest said =
-      qed W (‵ (Q.the-row .own a (w ∷ [])) ∷ ‵ (flft κ q) ∷ ‵ (flft κ₁ q₁) ∷ ‵ OwnT ∷ ‵ (finally u8 γ₁ zs′) ∷ []) ∵
+      qed W (‵ (flft κ₁ q₁) ∷ ‵ (finally u8 γ₁ zs′) ∷ ‵ (Q.the-row .own a (w ∷ [])) ∷ ‵ (flft κ q) ∷ ‵ OwnT ∷ []) ∵
       suffices ! _ (ends-at 𝓤 H A f.ended stayed (f.clauses 𝓤 H A mem run) W (((κ, (κ₁, tt)), (q, (q₁, tt)), tt, x, at), tt) w a (tt, (tt, (tt, (tt, (zs′, tt))))) (tt, (tt, (tt, (tt, (lz, tt)))))) $ says ! said $
-      nothing ! $ move ! (3 ∷ 0 ∷ []) $ join ! $ move ! (2 ∷ 0 ∷ []) $ join ! $ frame ! $
-      nothing ! $ move ! (3 ∷ 0 ∷ []) $ fjoin ! $ move ! (2 ∷ 0 ∷ []) $ fjoin ! $ owned ! i32 (Is i32) (sint-makes 𝓤 H A W w32) rest _ is-rest $ fjoin ! $ owned ! i32 (Is i32) (sint-makes 𝓤 H A W w32) band _ is-band $ fjoin ! $ owned ! usize (Is usize) (uint-makes 𝓤 H A W w64) slots _ is-slots $ fjoin ! $ frame ! $ done !
+      nothing ! $ move ! (1 ∷ 0 ∷ []) $ join ! $ move ! (3 ∷ 0 ∷ []) $ join ! $ frame ! $
+      nothing ! $ move ! (1 ∷ 0 ∷ []) $ fjoin ! $ move ! (2 ∷ 0 ∷ []) $ fjoin ! $ owned ! i32 (Is i32) (sint-makes 𝓤 H A W w32) rest _ is-rest $ fjoin ! $ owned ! i32 (Is i32) (sint-makes 𝓤 H A W w32) band _ is-band $ fjoin ! $ owned ! usize (Is usize) (uint-makes 𝓤 H A W w64) slots _ is-slots $ fjoin ! $ frame ! $ done !
 
-  -- what is passed to `parts_of`, and to the covered function
-  abbrev taking : Take 𝓤 H A mem run .Ghost
-  taking = to-take 𝓤 H A W mem run κ q b o γ ys
-
-  abbrev WorkArg : Type 0
-  WorkArg = ℕ × (ℤ × (ℤ × (Parts × (RefT (List ℕ) × Unit {0}))))
-
-  abbrev given-work : Parts → WorkArg
-  given-work r = (slots, (band, (rest, (r, (xO, tt)))))
-
+  -- what is passed to the covered function
   abbrev to-work : Parts → Val → Work 𝓤 H A mem run .Ghost
-  to-work r u = (((κ₁, tt), (q₁, tt), tt, given-work r, (vint w64 slots ∷ [], (vint w32 (ofZ w32 band) ∷ [], (vint w32 (ofZ w32 rest) ∷ [], (u ∷ [], (vO ∷ [], tt)))))), tt)
+  to-work r u = (((κ₁, tt), (q₁, tt), tt, (slots, (band, (rest, (r, (xO, tt))))), (vint w64 slots ∷ [], (vint w32 (ofZ w32 band) ∷ [], (vint w32 (ofZ w32 rest) ∷ [], (u ∷ [], (vO ∷ [], tt)))))), tt)
 
   goes-work : (r : Parts) (u : Val) → Is K.the-row r (u ∷ []) → Within r → Is usize slots (vint w64 slots ∷ []) → Is i32 band (vint w32 (ofZ w32 band) ∷ []) → Is i32 rest (vint w32 (ofZ w32 rest) ∷ []) → ent 𝓤 (sep 𝓤 (A .lft κ₁ q₁) (sem 𝓤 H A OwnO)) (Work 𝓤 H A mem run .pre (to-work r u))
   goes-work r u is within is-slots is-band is-rest =
@@ -101,33 +89,25 @@ module _ {M : Type 1} (𝓤 : URA M) (H : Heap 𝓤) (A : Atoms 𝓤) (W : Given
       nothing ! $ move ! (1 ∷ 0 ∷ []) $ join ! $ frame ! $ nothing ! $
       move ! (1 ∷ 0 ∷ []) $ fjoin ! $ owned ! K.the-row (Is K.the-row) ((LL.makes K.the-type K′.the-plain) 𝓤 H A) r _ is $ fjoin ! $ owned ! i32 (Is i32) (sint-makes 𝓤 H A W w32) rest _ is-rest $ fjoin ! $ owned ! i32 (Is i32) (sint-makes 𝓤 H A W w32) band _ is-band $ fjoin ! $ owned ! usize (Is usize) (uint-makes 𝓤 H A W w64) slots _ is-slots $ fjoin ! $ done !
 
-  module _ (C : Calls 𝓤 H) (Λ : Loops 𝓤 H) (fm : FmC 𝓤 H (W .laws) C) (known-take : Triple 𝓤 (C #synopsis·parts-of) (Take 𝓤 H A mem run)) (known-work : Triple 𝓤 (C #synopsis·write-record-of-parts) (Work 𝓤 H A mem run)) where
+  module _ (C : Calls 𝓤 H) (Λ : Loops 𝓤 H) (fm : FmC 𝓤 H (W .laws) C) (known-take : Triple 𝓤 (C #synopsis·take-apart) (Take 𝓤 H A mem run)) (known-work : Triple 𝓤 (C #synopsis·write-record-of-parts) (Work 𝓤 H A mem run)) where
     walk : Is usize slots (vint w64 slots ∷ []) → Is i32 band (vint w32 (ofZ w32 band) ∷ []) → Is i32 rest (vint w32 (ofZ w32 rest) ∷ []) → Room T.the-row n → Room u8 (length zs) → ent 𝓤 (onEntry 𝓤 H A f.signature (κ, (κ₁, tt)) (q, (q₁, tt)) x at) (WpFn 𝓤 H C Λ code.function (vint w64 slots ∷ vint w32 (ofZ w32 band) ∷ vint w32 (ofZ w32 rest) ∷ vT ∷ vO ∷ []) Post)
     walk is-slots is-band is-rest roomT roomO =
-        qed W ((‵ (flft κ q) ⊛ (‵ (flft κ₁ q₁) ⊛ ‵ ftrue)) ∷ ‵ (owns (usize ∷ i32 ∷ i32 ∷ ShrSlice (named 0) κ T.the-row ∷ MutSlice (named 1) κ₁ u8 ∷ []) x at) ∷ []) ∵ enter ! C Λ code.function (vint w64 slots ∷ vint w32 (ofZ w32 band) ∷ vint w32 (ofZ w32 rest) ∷ vT ∷ vO ∷ []) _ $
+        qed W ((‵ (flft κ q) ⊛ (‵ (flft κ₁ q₁) ⊛ ‵ ftrue)) ∷ ‵ (owns (usize ∷ i32 ∷ i32 ∷ ShrSlice (named 0) κ T.the-row ∷ MutSlice (named 1) κ₁ u8 ∷ []) x at) ∷ []) ∵
+        split ! $ move ! (1 ∷ []) $ split ! $ move ! (3 ∷ []) $ fsplit ! $ move ! (1 ∷ []) $ fsplit ! $ move ! (1 ∷ []) $ fsplit ! $ move ! (1 ∷ []) $ fsplit ! $ move ! (1 ∷ []) $ fsplit ! $ keep ! (8 ∷ 2 ∷ 6 ∷ 0 ∷ []) $ enter ! C Λ code.function (vint w64 slots ∷ vint w32 (ofZ w32 band) ∷ vint w32 (ofZ w32 rest) ∷ vT ∷ vO ∷ []) _ $
         alloc1 ! (λ l₀. alloc1 ! (λ l₁. alloc1 ! (λ l₂. alloc1 ! (λ l₃. alloc1 ! (λ l₄. alloc1 ! (λ l₅. alloc1 ! (λ l₆. alloc1 ! (λ l₇. alloc1 ! (λ l₈. alloc0 ! $ params1 ! $
         pass1 ! (init ! 14 refl (tt, record { fits = is-slots .1 })) $ pass1 ! (init ! 12 refl (tt, ofZ-fits w32 band (record { sfits = is-band .1 }))) $ pass1 ! (init ! 10 refl (tt, ofZ-fits w32 rest (record { sfits = is-rest .1 }))) $ pass1 ! (init ! 8 refl (tt, (tt, (record { fits = roomT .0 }, tt)))) $ pass1 ! (init ! 6 refl (tt, (tt, (record { fits = roomO .0 }, tt)))) $ pass0 ! $
-        move ! (18 ∷ []) $ split ! $ move ! (1 ∷ []) $ split ! $ move ! (21 ∷ []) $ fsplit ! $ move ! (1 ∷ []) $ fsplit ! $ move ! (1 ∷ []) $ fsplit ! $ move ! (1 ∷ []) $ fsplit ! $ move ! (1 ∷ []) $ fsplit ! $ move ! (2 ∷ []) $ use1 W (‵ OwnT ⊛ ‵ OwnT) (shr-slice-copy 𝓤 H A W (named 0) κ T.the-row .twice xT (vT ∷ [])) $ split ! $
-        move ! (9 ∷ 0 ∷ []) $ use2 W (raw (Take 𝓤 H A mem run .pre taking)) (goes-take 𝓤 H A W mem run κ q b o γ ys) $
-        calls-at ! fm (Take 𝓤 H A mem run) known-take taking (and-then ! (load ! (from ! (stop !)) (look ! 17 refl)) (no-more !)) (λ u.
-        use1 W (later (some (λ (r : Parts). ((‵ (flft κ q) ⊛ ‵ ftrue) ⊛ ‵ (K.the-row .own r (u ∷ []))) ⊛ raw (ensured 𝓤 H A taken.ended (taken.clauses 𝓤 H A mem run) (κ, tt) (xT, tt) tt r)))) (id⊢ 𝓤 _) $ await ! tt $ pick ! (λ r.
-        split ! $ move ! (1 ∷ []) $ use1 W (some (λ (ws : Unit {0} × Unit {0}). ‵ (lasts taken.ended (κ, tt) (xT, tt) ws) ⊛ raw (fact 𝓤 (PartsOf ys r)))) (id⊢ 𝓤 _) $ pick ! (λ _.
-        split ! $ move ! (1 ∷ []) $ heard ! (PartsOf ys r) (λ of-terms. drop ! $ split ! $ move ! (1 ∷ []) $ peeks ! K.the-row (Is K.the-row) (shows 𝓤 H A K.the-row) r (u ∷ []) (λ is.
-        land ! (from ! (stop !)) (init ! 14 refl (LL.lawful K.the-type K′.the-laws 𝓤 H A W .typed r _ is .0)) $ drop ! $ split ! $
-        assigns ! (addr ! (from ! (fld ! refl (hop ! (look-in ! 16 (sub ! 0 refl (whole !))) (stop !))))) (from ! (stop !)) (init ! 12 refl (tt, tt)) $
-        assigns ! (agg ! (and-then ! (load ! (from ! (stop !)) (look ! 12 refl)) (and-then ! (load ! (from ! (fld ! refl (stop !))) (look-in ! 16 (sub ! 1 refl (whole !)))) (no-more !)))) (from ! (stop !)) (init ! 10 refl (tt, (tt, (record { fits = roomO .0 }, tt)))) $
-        move ! (8 ∷ 3 ∷ []) $ use2 W (raw (Work 𝓤 H A mem run .pre (to-work r u))) (goes-work r u is (of-terms .within) is-slots is-band is-rest) $
-        calls-at ! fm (Work 𝓤 H A mem run) known-work (to-work r u) (and-then ! (load ! (from ! (stop !)) (look ! 23 refl)) (and-then ! (load ! (from ! (stop !)) (look ! 21 refl)) (and-then ! (load ! (from ! (stop !)) (look ! 19 refl)) (and-then ! (load ! (from ! (stop !)) (look ! 13 refl)) (and-then ! (load ! (from ! (stop !)) (look ! 9 refl)) (no-more !)))))) (λ w.
-        use1 W (later (some (λ (a : WriteAnswer). ((‵ (flft κ₁ q₁) ⊛ ‵ ftrue) ⊛ ‵ (Q.the-row .own a (w ∷ []))) ⊛ raw (ensured 𝓤 H A work.ended (work.clauses 𝓤 H A mem run) (κ₁, tt) (given-work r) tt a)))) (id⊢ 𝓤 _) $ await ! tt $ pick ! (λ a.
-        split ! $ move ! (1 ∷ []) $ use1 W (some (λ (ws : WorkLasts). ‵ (lasts work.ended (κ₁, tt) (given-work r) ws) ⊛ raw (fact 𝓤 (Said (termsOf r) a (ws .1 .1 .1 .1 .0))))) (id⊢ 𝓤 _) $ pick ! (λ ws.
-        split ! $ move ! (1 ∷ []) $ heard ! (Said (termsOf r) a (ws .1 .1 .1 .1 .0)) (λ said. fsplit ! $ move ! (1 ∷ []) $ fsplit ! $ move ! (1 ∷ []) $ fsplit ! $ move ! (1 ∷ []) $ fsplit ! $ move ! (1 ∷ []) $ fsplit ! $ fsplit ! $ move ! (1 ∷ []) $ feqL ! (λ lz.
-        move ! (6 ∷ []) $ split ! $ move ! (1 ∷ []) $ peeks ! Q.the-row (Is Q.the-row) (shows 𝓤 H A Q.the-row) a (w ∷ []) (λ isA.
-        land ! (from ! (stop !)) (init ! 32 refl (LL.lawful Q.the-type Q′.the-laws 𝓤 H A W .typed a _ isA .0)) $ move ! (1 ∷ []) $ split ! $
-        returns ! (look ! 33 refl) $ forget ! 33 refl $ forget ! 31 refl $ forget ! 29 refl $ forget ! 27 refl $ forget ! 25 refl $ forget ! 23 refl $ forget ! 21 refl $ forget ! 19 refl $ forget ! 17 refl $
-        move ! (33 ∷ 34 ∷ []) $ free1 ! $ move ! (31 ∷ 32 ∷ []) $ free1 ! $ move ! (29 ∷ 30 ∷ []) $ free1 ! $ move ! (27 ∷ 28 ∷ []) $ free1 ! $ move ! (25 ∷ 26 ∷ []) $ free1 ! $ move ! (23 ∷ 24 ∷ []) $ free1 ! $ move ! (21 ∷ 22 ∷ []) $ free1 ! $ move ! (19 ∷ 20 ∷ []) $ free1 ! $ move ! (17 ∷ 18 ∷ []) $ free1 ! $ free0 ! $
-        keep ! (2 ∷ 9 ∷ 0 ∷ 11 ∷ 3 ∷ []) $ by ! (exits a w (ws .1 .1 .1 .1 .0) lz is-slots is-band is-rest (record-written ys r of-terms slots band rest (a .refusal) (a .count) zs (ws .1 .1 .1 .1 .0) said))))))))))))))))))))))
+        move ! (18 ∷ 19 ∷ []) $ takes ! fm mem run known-take κ q b o γ ys (λ j. and-then ! (load ! (from ! (stop !)) (look ! 10 refl)) (no-more !)) (λ u r of-terms is.
+        land ! (from ! (stop !)) (init ! 6 refl (LL.lawful K.the-type K′.the-laws 𝓤 H A W .typed r _ is .0)) $
+        assigns ! (addr ! (from ! (fld ! refl (hop ! (look-in ! 8 (sub ! 0 refl (whole !))) (stop !))))) (from ! (stop !)) (init ! 4 refl (tt, tt)) $
+        assigns ! (agg ! (and-then ! (load ! (from ! (stop !)) (look ! 4 refl)) (and-then ! (load ! (from ! (fld ! refl (stop !))) (look-in ! 8 (sub ! 1 refl (whole !)))) (no-more !)))) (from ! (stop !)) (init ! 2 refl (tt, (tt, (record { fits = roomO .0 }, tt)))) $
+        move ! (20 ∷ 21 ∷ []) $ use2 W (raw (Work 𝓤 H A mem run .pre (to-work r u))) (goes-work r u is (of-terms .within) is-slots is-band is-rest) $
+        answers ! fm work.ended (work.clauses 𝓤 H A mem run) known-work (to-work r u) (‵ (flft κ₁ q₁) ⊛ ‵ ftrue) (id⊢ 𝓤 _) (λ a ws. Said (termsOf r) a (ws .1 .1 .1 .1 .0)) (λ a ws. id⊢ 𝓤 _) (and-then ! (load ! (from ! (stop !)) (look ! 17 refl)) (and-then ! (load ! (from ! (stop !)) (look ! 15 refl)) (and-then ! (load ! (from ! (stop !)) (look ! 13 refl)) (and-then ! (load ! (from ! (stop !)) (look ! 7 refl)) (and-then ! (load ! (from ! (stop !)) (look ! 3 refl)) (no-more !)))))) (λ w a ws said isA.
+        move ! (1 ∷ []) $ lasting ! 4 u8 γ₁ (ws .1 .1 .1 .1 .0) zs (λ lz. move ! (1 ∷ []) $ split ! $ move ! (1 ∷ []) $ drop ! $ land ! (from ! (stop !)) (init ! 21 refl (LL.lawful Q.the-type Q′.the-laws 𝓤 H A W .typed a _ isA .0)) $
+        returns ! (look ! 21 refl) $ forget ! 21 refl $ forget ! 19 refl $ forget ! 17 refl $ forget ! 15 refl $ forget ! 13 refl $ forget ! 11 refl $ forget ! 9 refl $ forget ! 7 refl $ forget ! 5 refl $
+        move ! (21 ∷ 22 ∷ []) $ free1 ! $ move ! (19 ∷ 20 ∷ []) $ free1 ! $ move ! (17 ∷ 18 ∷ []) $ free1 ! $ move ! (15 ∷ 16 ∷ []) $ free1 ! $ move ! (13 ∷ 14 ∷ []) $ free1 ! $ move ! (11 ∷ 12 ∷ []) $ free1 ! $ move ! (9 ∷ 10 ∷ []) $ free1 ! $ move ! (7 ∷ 8 ∷ []) $ free1 ! $ move ! (5 ∷ 6 ∷ []) $ free1 ! $ free0 ! $
+        by ! (exits a w (ws .1 .1 .1 .1 .0) lz is-slots is-band is-rest (record-written ys r of-terms slots band rest (a .refusal) (a .count) zs (ws .1 .1 .1 .1 .0) said))))))))))))))
 
-module _ {M : Type 1} (𝓤 : URA M) (H : Heap 𝓤) (A : Atoms 𝓤) (W : Given 𝓤 H A) (mem : Memory → SProp 𝓤) (run : Routine → Fun 𝓤) (𝓣 : Tables 𝓤 H) (known-take : Triple 𝓤 (𝓣 .C #synopsis·parts-of) (Take 𝓤 H A mem run)) (known-work : Triple 𝓤 (𝓣 .C #synopsis·write-record-of-parts) (Work 𝓤 H A mem run)) where
+module _ {M : Type 1} (𝓤 : URA M) (H : Heap 𝓤) (A : Atoms 𝓤) (W : Given 𝓤 H A) (mem : Memory → SProp 𝓤) (run : Routine → Fun 𝓤) (𝓣 : Tables 𝓤 H) (known-take : Triple 𝓤 (𝓣 .C #synopsis·take-apart) (Take 𝓤 H A mem run)) (known-work : Triple 𝓤 (𝓣 .C #synopsis·write-record-of-parts) (Work 𝓤 H A mem run)) where
   walks : Walks 𝓤 H A f.ended stayed (WpFn 𝓤 H (𝓣 .C) (𝓣 .Λ) code.function) (f.clauses 𝓤 H A mem run)
   walks = walked 𝓤 H A f.ended stayed (f.clauses 𝓤 H A mem run) (WpFn 𝓤 H (𝓣 .C) (𝓣 .Λ) code.function) (λ κs. (uint-vals w64, (sint-vals w32, (sint-vals w32, (slice-vals, (slice-vals, tt)))))) (λ κs. (uint-tells w64, (sint-tells w32, (sint-tells w32, (shr-slice-tells (named 0) (κs .0) T.the-row, (mut-slice-tells (named 1) (κs .1 .0) u8, tt))))))
       (λ κs qs bounds a g are. via 𝓤 _ (fst∗ 𝓤 _ (emp 𝓤))
@@ -142,5 +122,5 @@ write-record-spec 𝓤 H 𝓜 𝓖 𝓡 =
     entered 𝓤 H (tripleOf 𝓤 H (𝓖 .A) f.signature (f.spec 𝓤 H (𝓖 .A) (𝓜 .mem) (𝓡 .run)))
     (tables 𝓤 H 𝓜 𝓡 code.env .C) (tables 𝓤 H 𝓜 𝓡 code.env .Λ) #synopsis·write-record code.function (code.unfolded 𝓤 H 𝓜 𝓡)
     (meets 𝓤 H (𝓖 .A) (givenOf 𝓤 H 𝓜 𝓖) (𝓜 .mem) (𝓡 .run) (tablesOf 𝓤 H 𝓜 (tables 𝓤 H 𝓜 𝓡 code.env))
-    (cited 𝓤 H (Take 𝓤 H (𝓖 .A) (𝓜 .mem) (𝓡 .run)) 𝓜 𝓡 code.env #synopsis·parts-of taken-def.routine code.calls-synopsis·parts-of (taken-thm.met 𝓤 H 𝓜 𝓖 𝓡))
+    (cited 𝓤 H (Take 𝓤 H (𝓖 .A) (𝓜 .mem) (𝓡 .run)) 𝓜 𝓡 code.env #synopsis·take-apart taken-def.routine code.calls-synopsis·take-apart (taken-thm.met 𝓤 H 𝓜 𝓖 𝓡))
     (cited 𝓤 H (Work 𝓤 H (𝓖 .A) (𝓜 .mem) (𝓡 .run)) 𝓜 𝓡 code.env #synopsis·write-record-of-parts work-def.routine code.calls-synopsis·write-record-of-parts (work-thm.met 𝓤 H 𝓜 𝓖 𝓡)))

@@ -6,10 +6,10 @@ use Prim.Native.Nat.{ℕ, zero, suc, _^_, _<_, _≤_}
 use native.Mathlib.Omega.{arith}
 use lib.Dec.{T, leb, ltb, eqb, leb→le, ltb→lt, eqb→eq}
 use lib.ListN.{getD}
+use mir.Facts.{and-yes}
 use borrow.Author.Needs.{needs}
 use borrow.Author.Tests.{lt-ltb}
 use Rattle.histogram.specs.Tree.{levelOf, levelAnswer}
-use Rattle.histogram.proofs.Conjunction.{first-of, second-of}
 use Rattle.histogram.proofs.Powers.{level-rule, level-only, level-in-table}
 use Rattle.histogram.proofs.Table.{passes, at-each-place}
 use Rattle.histogram.proofs.level.level.Statement.{statement}
@@ -32,8 +32,8 @@ level-of zero entry is = eqb→eq entry 0 is
 level-of (suc i) entry is =
     level-only
     (record {
-      reached = leb→le (2 ^ entry) (suc i) (first-of (leb (2 ^ entry) (suc i)) _ is);
-      next-not = ltb→lt (suc i) (2 ^ suc entry) (second-of (leb (2 ^ entry) (suc i)) _ is);
+      reached = leb→le (2 ^ entry) (suc i) (and-yes (leb (2 ^ entry) (suc i)) _ is .0);
+      next-not = ltb→lt (suc i) (2 ^ suc entry) (and-yes (leb (2 ^ entry) (suc i)) _ is .1);
     })
     (level-rule (suc i) (omega arith))
 

@@ -15,7 +15,7 @@ use Rattle.histogram.proofs.restore.hand_down.Tie as tie
 
 abbrev Inv-loop : tie.InvT-loop
 Inv-loop end rest nodes values restored₀ next₀ node₀ restored next node =
-    Handed (toZ w16 rest) nodes values end restored next node × (length restored ≡ length restored₀)
+    Handed (toZ w16 rest) nodes values end restored₀ restored next node × (length restored ≡ length restored₀)
 
 abbrev μ-loop : tie.MeasureT-loop
 μ-loop end rest nodes values restored₀ next₀ node₀ restored next node = end - node
@@ -64,7 +64,7 @@ same-length c = c .before .loop .inv .1 ∙ simp length-set
 returns : tie.Need-returns Inv-loop μ-loop
 returns c =
     let start = c .before .before .before in
-    rw (toZ-ofZ (start .fits .rest)) at (handed-down (c .before .loop .inv .0) (c .loop-test .left))
+    rw (toZ-ofZ (start .fits .rest)) at (handed-down {before = start .args .restored .now} (c .before .loop .inv .0) (c .loop-test .left))
 
 pub hand-down-spec : {M : Type 1} → statement M
 hand-down-spec =

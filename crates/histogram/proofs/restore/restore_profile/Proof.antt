@@ -122,7 +122,7 @@ slot-holds c slot below =
     let terms = paired (args .nodes .now) (args .values .now) in
     let first = padding .padded-length .result in
     let rest-is = narrower (start .fits .rest) (accepted-here (padding .before .before) .rest-within) in
-    let handed : HandedDown (args .rest) terms (2 * first) (c .hand-down .last .1 .1 .1 .1 .0) = rw rest-is at (c .hand-down .ensures) in
+    let handed : HandedDown (args .rest) terms (2 * first) _ (c .hand-down .last .1 .1 .1 .1 .0) = rw rest-is at (c .hand-down .ensures) in
     handed .at-node (first + slot) (omega (arith, padding .padded-length .ensures, height-reaches (args .slots)))
     ∙ ap (λ (node : ℕ). restoredAt (args .rest) terms (node + slot)) (padding .padded-length .ensures)
 

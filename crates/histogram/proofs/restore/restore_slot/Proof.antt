@@ -1,4 +1,4 @@
--- `histogram::restore::restore_slot` meets its contract: a synopsis that is not refused has few slots and a small rest value, so that the casts keep both.
+-- `histogram::restore::restore_slot` meets its contract: the refusal of the synopsis, or the answer of one that is not refused.
 use mathlib.Core.Path.{_≡_, refl, sym, _∙_}
 use Prim.Native.Nat.{_+_, _≤_}
 use native.Mathlib.Omega.{arith}
@@ -38,63 +38,14 @@ returns c =
       setpoint-is = sym (granted-nothing (c .before .refuse-synopsis .result) _ (pos 0) (c .if1 .taken));
     }
 
-accepted-here : (c : tie.Else1) → let args = c .before .before .before .args in Accepted (args .slots) (args .rest) (paired (args .nodes .now) (args .values .now))
-accepted-here c = accepted _ _ _ (refusal-answer (c .before)) (c .if1 .left)
+restore-checked-slot-requires : tie.Need-restore-checked-slot-requires
+restore-checked-slot-requires c κs =
+    let start = c .before .before .before in
+    let not-refused = accepted (start .args .slots) (start .args .rest) _ (refusal-answer (c .before)) (c .if1 .left) .not-refused in
+    (start .pre, rw (toZ-ofZ (start .fits .rest)) not-refused)
 
 returns-2 : tie.Need-returns-2
-returns-2 c = record { refusal-is = rw (accepted-here (c .before) .not-refused, le-leb _ _ (c .if2 .taken)); setpoint-is = refl }
-
-padded-length-requires : tie.Need-padded-length-requires
-padded-length-requires c κs = accepted-here (c .before) .slots .few-slots
-
--- the slot's node is in the table
-node-bound : (c : tie.After-padded-length) → c .padded-length .result + c .before .before .before .before .before .args .slot ≤ 1023
-node-bound c =
-    let few = accepted-here (c .before .before) .slots .few-slots in
-    omega (arith, c .padded-length .ensures, padded-bound few, c .before .if2 .left)
-
-add-node : tie.Need-add-node
-add-node c = omega (arith, node-bound c)
-
-cast-node : tie.Need-cast-node
-cast-node c = omega (arith, node-bound c)
-
-cast-restore-node : tie.Need-cast-restore-node
-cast-restore-node c = narrower-fits (c .before .before .before .before .before .fits .rest) (accepted-here (c .before .before) .rest-within)
-
-restore-node-requires : tie.Need-restore-node-requires
-restore-node-requires c κs =
-    let start = c .before .before .before .before .before in
-    let args = start .args in
-    record {
-      same-length = start .pre;
-      ascending = ascends (args .nodes .now) (args .values .now) (start .pre) (record { passes = accepted-here (c .before .before) .terms-valid });
-      from-root = omega (arith, c .padded-length .ensures, pow-pos (height (args .slots)));
-      in-table = node-bound c;
-    }
-
-returns-3 : tie.Need-returns-3
-returns-3 c =
-    let padding = c .before in
-    let inside = padding .before in
-    let start = inside .before .before .before .before in
-    let accepted = accepted-here (inside .before) in
-    let fits : SFits w16 (c .restore-node .result) = search needs in
-    record {
-      refusal-is = rw (accepted .not-refused, lt-leb _ _ (inside .if2 .left));
-      setpoint-is = toZ-ofZ fits ∙ (rw (narrower (start .fits .rest) (accepted .rest-within), padding .padded-length .ensures) at (c .restore-node .ensures));
-    }
+returns-2 c = rw (toZ-ofZ (c .before .before .before .before .fits .rest)) at (c .restore-checked-slot .ensures)
 
 pub restore-slot-spec : {M : Type 1} → statement M
-restore-slot-spec =
-    tie.close
-    (tie.spec
-    refuse-synopsis-requires
-    returns
-    returns-2
-    padded-length-requires
-    add-node
-    cast-node
-    cast-restore-node
-    restore-node-requires
-    returns-3)
+restore-slot-spec = tie.close (tie.spec refuse-synopsis-requires returns restore-checked-slot-requires returns-2)

@@ -1,0 +1,52 @@
+-- A number has at most 7 bytes, as `-200,00`: a minus, three digits, a mark and two digits. A longer field is none.
+use mathlib.Core.Path.{_≡_, refl}
+use mathlib.Core.Bool.{Bool, true, false, cond}
+use mathlib.Core.List.{List, [], _∷_}
+use mathlib.Core.Option.{Option, none}
+use Prim.Native.Nat.{ℕ, zero, suc, _≤_}
+use native.Mathlib.Omega.{arith}
+use lib.Dec.{eqb}
+use lib.ListN.{length, drop, length-drop}
+use Rattle.decimal.specs.Number.{isDigit, isMark, leadingDigits, hundredths, fraction, unsigned, readsAs}
+
+-- none in either case of a test
+pub either-none : {A : Type 0} (test : Bool) (x y : Option A) → x ≡ none → y ≡ none → cond test x y ≡ none
+either-none true x y none-x none-y = none-x
+either-none false x y none-x none-y = none-y
+
+-- three bytes after the mark
+too-long-after-mark : (field : List ℕ) → 3 ≤ length field → hundredths field ≡ none
+too-long-after-mark [] long = absurd (omega arith)
+too-long-after-mark (tenths ∷ []) long = absurd (omega arith)
+too-long-after-mark (tenths ∷ rest ∷ []) long = absurd (omega arith)
+too-long-after-mark (tenths ∷ rest ∷ more ∷ field) long = refl
+
+-- four bytes after the units
+too-long-after-units : (field : List ℕ) → 4 ≤ length field → fraction field ≡ none
+too-long-after-units [] long = absurd (omega arith)
+too-long-after-units (byte ∷ field) long = either-none (isMark byte) (hundredths field) none (too-long-after-mark field (omega arith)) refl
+
+-- no more leading digits than asked for
+few-leading : (most : ℕ) (field : List ℕ) → length (leadingDigits most field) ≤ most
+unfolding leadingDigits
+few-leading zero field = omega arith
+few-leading (suc most) [] = omega arith
+few-leading (suc most) (byte ∷ field) = by-first (isDigit byte) (few-leading most field)
+  where
+    by-first : (a-digit : Bool) → length (leadingDigits most field) ≤ most → length (cond a-digit (byte ∷ leadingDigits most field) []) ≤ suc most
+    by-first true shorter = omega arith
+    by-first false shorter = omega arith
+
+-- seven bytes without a sign
+too-long-unsigned : (field : List ℕ) → 7 ≤ length field → unsigned field ≡ none
+too-long-unsigned field long =
+    let units : List ℕ = leadingDigits 3 field in
+    let no-fraction : fraction (drop (length units) field) ≡ none =
+    too-long-after-units (drop (length units) field) (simp length-drop (omega (arith, few-leading 3 field))) in
+    either-none (eqb (length units) 0) none _ refl (rw no-fraction refl)
+
+-- eight bytes
+pub too-long-number : (field : List ℕ) → 8 ≤ length field → readsAs field ≡ none
+too-long-number [] long = absurd (omega arith)
+too-long-number (byte ∷ field) long =
+    either-none (eqb byte 45) _ _ (rw (too-long-unsigned field (omega arith)) refl) (rw (too-long-unsigned (byte ∷ field) (omega arith)) refl)

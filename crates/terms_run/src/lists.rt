@@ -1,0 +1,43 @@
+// Lists of terms, each in the first places of an array.
+use histogram::Term;
+
+// A destination: every place holds the term 9:9.
+pub fn no_terms() -> [Term; 1100] {
+    let term = Term { node: 9, value: 9 };
+    [term; 1100]
+}
+
+pub fn one_term(node: u16, value: i16) -> [Term; 1100] {
+    let term = Term {
+        node: node,
+        value: value,
+    };
+    [term; 1100]
+}
+
+pub fn two_terms(node: u16, value: i16, next_node: u16, next_value: i16) -> [Term; 1100] {
+    let term = Term {
+        node: next_node,
+        value: next_value,
+    };
+    let mut terms = [term; 1100];
+    terms[0] = Term {
+        node: node,
+        value: value,
+    };
+    terms
+}
+
+// A term of value 7 at each node from 1 on.
+pub fn every_node() -> [Term; 1100] {
+    let mut terms = [Term { node: 0, value: 7 }; 1100];
+    let mut i = 0;
+    while i < 1100 {
+        terms[i] = Term {
+            node: (i + 1) as u16,
+            value: 7,
+        };
+        i += 1;
+    }
+    terms
+}
