@@ -1,7 +1,7 @@
 // The slots of a tree over a profile: how many there are, and the setpoint of each.
 use histogram::level::level;
 use histogram::terms::padded_length;
-use windows::smaller;
+use limits::smaller;
 ghost use mathlib.Core.Path.{_≡_};
 ghost use Prim.Native.Nat.{_≤_};
 ghost use lib.ListN.{length};

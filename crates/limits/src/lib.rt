@@ -1,6 +1,6 @@
-// What every call shares: the limits that document 01 sets, as tests, and laying numbers over the front of a slice.
+// What every call shares: the limits that document 01 sets, as tests, the smaller and the larger of two numbers, and laying numbers over the front of a slice.
 ghost use mathlib.Core.Path.{_≡_};
-ghost use Prim.Native.Nat.{_≤_};
+ghost use Prim.Native.Nat.{_≤_, min, max};
 ghost use lib.IntN.{natAbs};
 ghost use lib.ListN.{length};
 ghost use Rattle.limits.specs.Limits.{beyond, outsideBand, outsideSlots, anyBeyond};
@@ -22,6 +22,18 @@ pub fn magnitude(number: i32) -> u32
     } else {
         wide as u32
     }
+}
+
+pub fn smaller(one: usize, other: usize) -> usize
+    ensures { λ r. ⌜ r ≡ min one other ⌝ }
+{
+    if one < other { one } else { other }
+}
+
+pub fn larger(one: usize, other: usize) -> usize
+    ensures { λ r. ⌜ r ≡ max one other ⌝ }
+{
+    if one < other { other } else { one }
 }
 
 // Whether a number lies beyond ±limit.

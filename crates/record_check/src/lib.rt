@@ -3,10 +3,11 @@ use histogram::restore::SlotAnswer;
 use histogram::restore::hand_down;
 use histogram::restore::restore_checked_slot;
 use histogram::terms::padded_length;
+use limits::smaller;
 use record_read::read_into_room;
 ghost use mathlib.Core.Path.{_≡_};
 ghost use mathlib.Core.Bool.{false};
-ghost use Prim.Native.Nat.{min, max};
+ghost use Prim.Native.Nat.{max};
 ghost use Rattle.histogram.specs.Terms.{paired};
 ghost use Rattle.record_check.specs.Checking.{SlotRead, Checked, Verdict};
 ghost use Rattle.record_check.specs.Inner.{Comparable, Compared, InSlot, ErrorIs, Judgeable};
@@ -120,12 +121,6 @@ fn error_in(setpoints: &[i16], restored: &[i16], slot: usize) -> u32
     let setpoint = setpoints[place];
     let value = restored[slot];
     limits::magnitude(setpoint as i32 - value as i32)
-}
-
-fn smaller(one: usize, other: usize) -> usize
-    ensures { λ r. ⌜ r ≡ min one other ⌝ }
-{
-    if one < other { one } else { other }
 }
 
 fn larger(one: u32, other: u32) -> u32

@@ -1,6 +1,6 @@
 -- The answer of a subtree: its windows are sorted, at least one and at most one a slot, and its number is below that of its slots.
 use mathlib.Core.Path.{_≡_, refl, sym, ap, subst, _∙_}
-use mathlib.Core.Bool.{Bool, true, false, _&&_}
+use mathlib.Core.Bool.{Bool, true, false}
 use mathlib.Core.List.{List, [], _∷_}
 use Prim.Native.Nat.{ℕ, zero, suc, _+_, _*_, _-_, _^_, _≤_, _<_, min}
 use native.Mathlib.Omega.{arith}
@@ -8,6 +8,7 @@ use lib.Dec.{T}
 use lib.IntN.{ℤ, pos, natAbs}
 use lib.ListN.{length, getD, take, drop}
 use lib.Seq.{getD-drop}
+use mir.Facts.{yes-and}
 use Rattle.claims.specs.Inner.{lifted}
 use Rattle.claims.proofs.Lifted.{lifted-within}
 use Rattle.windows.specs.Windows.{Window, covers, Sorted, meet, join}
@@ -19,10 +20,8 @@ use Rattle.subtree.specs.Stretch.{Within}
 pub apart : (left right : List Window) → Sorted 0 left → Sorted 0 right → meet left right ≡ [] → (v : ℕ) → T (covers left v) → T (covers right v) → ⊥
 unfolding covers
 apart left right left-sorted right-sorted none v in-left in-right =
-    both-pass (covers left v) (covers right v) in-left in-right (sym (covers-meet left right 0 0 left-sorted right-sorted v) ∙ ap (λ (windows : List Window). covers windows v) none)
-  where
-    both-pass : (one other : Bool) → T one → T other → (one && other) ≡ false → ⊥
-    both-pass true true first second wrong = subst T wrong tt
+    let empty = sym (covers-meet left right 0 0 left-sorted right-sorted v) ∙ ap (λ (windows : List Window). covers windows v) none in
+    subst T empty (yes-and (covers left v) (covers right v) in-left in-right)
 
 -- ---- sorted
 

@@ -7,3 +7,4 @@ pub mod Answers
 pub mod Rows
 pub mod Solving
 pub mod Counting
+pub mod Pairs

@@ -11,6 +11,7 @@ use borrow.Author.Tests.{leb-true, leb-false, le-leb, lt-leb}
 use lib.IntN.{ℤ, pos, natAbs}
 use lib.ListN.{length, getD, take, drop}
 use lib.Seq.{getD-drop, getD-take}
+use mir.Facts.{and-yes}
 use Rattle.histogram.specs.Tree.{height, padded}
 use Rattle.histogram.specs.Errors.{setpointOf}
 use Rattle.fewest.specs.Node.{missed}
@@ -72,12 +73,6 @@ module _ (band height node : ℕ) (accept : ℕ → ℕ → Bool) (left right : 
       covered : (v : ℕ) → covers (meet (left .windows) (right .windows)) v ≡ (covers (left .windows) v && covers (right .windows) v)
       covered = covers-meet (left .windows) (right .windows) 0 0 left-sorted right-sorted
 
-      first-of-both : (one other : Bool) → T (one && other) → T one
-      first-of-both true other passes = tt
-
-      second-of-both : (one other : Bool) → T (one && other) → T other
-      second-of-both true other passes = passes
-
       split : (both : List Window) → meet (left .windows) (right .windows) ≡ both → Sorted 0 both
           → Row 40000 (cost binary accept 40000 (suc height) node) (combinedBy both left right .number) (covers (combinedBy both left right .windows))
       split [] none both-sorted =
@@ -88,10 +83,9 @@ module _ (band height node : ℕ) (accept : ℕ → ℕ → Bool) (left right : 
       split (window ∷ windows) is both-sorted =
           let in-both : T (covers (left .windows) (window .low) && covers (right .windows) (window .low)) =
           subst T (ap (λ (both : List Window). covers both (window .low)) (sym is) ∙ covered (window .low)) (first-inside window windows 0 both-sorted) in
+          let in-each = and-yes (covers (left .windows) (window .low)) (covers (right .windows) (window .low)) in-both in
           same-set
-          (sets-meet accept 40000 height node left-row right-row (window .low) (first-within window windows 0 both-sorted)
-          (first-of-both (covers (left .windows) (window .low)) (covers (right .windows) (window .low)) in-both)
-          (second-of-both (covers (left .windows) (window .low)) (covers (right .windows) (window .low)) in-both))
+          (sets-meet accept 40000 height node left-row right-row (window .low) (first-within window windows 0 both-sorted) (in-each .0) (in-each .1))
           (λ v within. sym (covered v) ∙ ap (λ (both : List Window). covers both v) is)
 
 module _ {profile : List ℤ} (band : ℕ) where

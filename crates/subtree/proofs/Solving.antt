@@ -13,7 +13,7 @@ use Rattle.windows.specs.Windows.{Window}
 use Rattle.windows.specs.Scratch.{at, windowsAt}
 use Rattle.windows.proofs.Reading.{windows-same, windows-shifted, windows-length}
 use Rattle.subtree.specs.Answer.{Answer, combined, answer}
-use Rattle.subtree.specs.Stretch.{ownPlaces, places, answerAt, Solved, Within, Solvable, Planned, LeafSolved, Combinable, CombinedAt}
+use Rattle.subtree.specs.Stretch.{ownPlaces, places, answerAt, Solved, Halves, Within, Solvable, Planned, LeafSolved, Combinable, CombinedAt}
 use Rattle.subtree.proofs.Places.{places-above, own-first}
 use Rattle.subtree.proofs.Lent.{in-part, before-part}
 use Rattle.subtree.proofs.Answers.{Bounded, answer-bounded, within-take, within-drop}
@@ -68,10 +68,6 @@ pub child-answer : (band height start : ℕ) (setpoints : List ℤ) (read : ℕ 
 child-answer band height start setpoints read solved = sym (answer-shifted read start) ∙ solved-top band height setpoints (λ place. read (start + place)) solved
 
 -- the answers of both children stand in one stretch, each a part of it
-pub record Halves (band height own middle : ℕ) (setpoints both : List ℤ) : Type 0 where
-  pub left-solved : Solved band height (take (2 ^ height) setpoints) (λ place. at both (own + place))
-  pub right-solved : Solved band height (drop (2 ^ height) setpoints) (λ place. at both (middle + place))
-
 module _ (band height own middle : ℕ) (setpoints both : List ℤ) (halves : Halves band height own middle setpoints both) where
   left-bounded : Bounded (2 ^ height) (answerAt (at both) own)
   left-bounded =
@@ -153,16 +149,17 @@ module _ (band height half own middle end : ℕ) (setpoints scratch left right :
             (subst (λ (list : List ℤ). Solved band (height - 1) list (at right)) (to-end half setpoints) right-solved));
       }
 
-  -- once their answers are combined, the whole stretch is solved
-  pub whole-solved : Halves band (height - 1) own middle setpoints both-back → (after : List ℤ) → CombinedAt both-back after own middle → Solved band height setpoints (at after)
-  whole-solved of-halves after combined-at =
+-- once the answers of both children are combined, the whole stretch is solved
+module _ (band height half own middle end : ℕ) (setpoints both : List ℤ) (planned : Planned height half own middle end) (of-halves : Halves band (height - 1) own middle setpoints both) where
+  pub whole-solved : (after : List ℤ) → CombinedAt both after own middle → Solved band height setpoints (at after)
+  whole-solved after combined-at =
       subst (λ (levels : ℕ). Solved band levels setpoints (at after)) (sym (planned .below))
-      (node-solved band (height - 1) own middle setpoints both-back of-halves after (planned .own-is ∙ ap ownPlaces (planned .below)) (planned .middle-is) combined-at)
+      (node-solved band (height - 1) own middle setpoints both of-halves after (planned .own-is ∙ ap ownPlaces (planned .below)) (planned .middle-is) combined-at)
 
-  pub halves-combinable : height ≤ 9 → Halves band (height - 1) own middle setpoints both-back → Combinable both-back own middle
-  halves-combinable in-tree of-halves =
-      combinable band (height - 1) own middle setpoints both-back of-halves (planned .own-is ∙ ap ownPlaces (planned .below)) (planned .middle-is)
-      (omega (arith, both-length, planned .end-is)) (omega arith)
+  pub halves-combinable : height ≤ 9 → end ≤ length both → Combinable both own middle
+  halves-combinable in-tree fits =
+      combinable band (height - 1) own middle setpoints both of-halves (planned .own-is ∙ ap ownPlaces (planned .below)) (planned .middle-is)
+      (omega (arith, planned .end-is)) (omega arith)
 
 -- what solving asks of each half
 module _ (band height half own middle end : ℕ) (setpoints scratch : List ℤ) (planned : Planned height half own middle end) (solvable : Solvable band height setpoints scratch) where

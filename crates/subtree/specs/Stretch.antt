@@ -29,6 +29,11 @@ Solved band (suc height) setpoints read =
     × Solved band height (take (2 ^ height) setpoints) (λ place. read (ownPlaces (suc height) + place))
     × Solved band height (drop (2 ^ height) setpoints) (λ place. read (ownPlaces (suc height) + places height + place))
 
+-- the stretches of a node's two children are solved, in the node's stretch
+pub record Halves (band height own middle : ℕ) (setpoints scratch : List ℤ) : Type 0 where
+  pub left-solved : Solved band height (take (2 ^ height) setpoints) (λ place. at scratch (own + place))
+  pub right-solved : Solved band height (drop (2 ^ height) setpoints) (λ place. at scratch (middle + place))
+
 -- every setpoint within ±20,000
 pub record Within (setpoints : List ℤ) : Type 0 where
   pub each : (slot : ℕ) → natAbs (getD setpoints slot (pos 0)) ≤ 20000

@@ -3,9 +3,9 @@
 use build::BuildAnswer;
 use histogram::Term;
 use histogram::restore::SlotAnswer;
+use limits::smaller;
 use record_read::HeaderAnswer;
 use record_write::WriteAnswer;
-use windows::smaller;
 ghost use mathlib.Core.Path.{_≡_};
 ghost use Prim.Native.Nat.{_<_};
 ghost use lib.ListN.{length, set, take};

@@ -1,93 +1,126 @@
--- One level after the other: the invariant of the loop that writes the terms of all levels.
-use mathlib.Core.Path.{_≡_}
-use mathlib.Core.List.{List, _++_}
-use Prim.Native.Nat.{ℕ, suc, _+_, _-_, _≤_, _<_}
-use native.Mathlib.Numerals.{add-one}
+-- One level after the other: the terms of the first levels, and the invariant of the loop that writes those of all.
+use mathlib.Core.Path.{_≡_, sym, ap, _∙_}
+use mathlib.Core.List.{List, [], _++_}
+use Prim.Native.Nat.{ℕ, suc, _+_, _-_, _≤_, _<_, min}
 use native.Mathlib.Omega.{arith}
 use lib.IntN.{ℤ}
-use lib.ListN.{length, take, drop, length-append}
+use lib.ListN.{length, length-append}
 use lib.Pow.{pow-mono}
-use borrow.Rule.Slice.PartMut.{putMid, mid-len}
+use Rattle.histogram.specs.declared.Term.{Term}
+use Rattle.claims.specs.Inner.{withTerm}
 use Rattle.windows.specs.Scratch.{at}
-use Rattle.subtree.specs.Stretch.{Solved}
-use Rattle.trace.specs.Trace.{levelTerms, upperTerms, LevelFits, LevelsFit, Traced, LevelTraced, LevelsTraced}
-use Rattle.trace.proofs.Traced.{none-traced, traced-further, traced-long}
+use Rattle.subtree.specs.Answer.{Answer}
+use Rattle.trace.specs.Trace.{change, handedOn, levelTerms, upperTerms, setAt, SolvedStretch, TermFits, LevelFits, LevelsFit, Appended, Traced, LevelTraced, UpperTraced, LevelsTraced}
+use Rattle.trace.proofs.Levels.{setOf, own-term, terms-below, handed-in-set, handed-within}
+use Rattle.trace.proofs.Stretches.{top-is, same-upper}
+use Rattle.trace.proofs.Traced.{appended-first, traced-further, traced-long}
 use Rattle.trace.proofs.Walked.{fewer-levels}
 
--- the terms of the first `depth` levels are written
-pub record LevelsSoFar (scratch : List ℤ) (height value : ℕ) (nodes nodes′ : List ℕ) (values values′ : List ℤ) (count depth : ℕ) : Type 0 where
-  pub in-tree : depth ≤ suc height
-  pub each : (band : ℕ) (setpoints : List ℤ) → Solved band height setpoints (at scratch) → Traced (upperTerms band depth height setpoints value) nodes nodes′ values values′ count
+module _ {scratch : List ℤ} {height value : ℕ} {nodes : List ℕ} {values : List ℤ} (fits : LevelsFit scratch height value nodes values) where
+  abbrev stretch : SolvedStretch height scratch
+  stretch = fits .stretch
 
-pub no-level : (scratch : List ℤ) (height value : ℕ) (nodes : List ℕ) (values : List ℤ) → LevelsSoFar scratch height value nodes nodes values values 0 0
-unfolding upperTerms
-no-level scratch height value nodes values = record { in-tree = omega arith; each = λ band setpoints solved. none-traced nodes values }
+  -- the terms of the first levels
+  abbrev upper : ℕ → List Term
+  upper levels = upperTerms (stretch .band) levels height (stretch .setpoints) value
 
-module _ {scratch : List ℤ} {height value : ℕ} {nodes nodes′ : List ℕ} {values values′ : List ℤ} {count depth : ℕ} (fits : LevelsFit scratch height value nodes values)
-    (so-far : LevelsSoFar scratch height value nodes nodes′ values values′ count depth) where
-  -- the terms so far and those of the next level, for the stretch's band and setpoints
-  abbrev before : ℕ
-  before = length (upperTerms (fits .stretch .band) depth height (fits .stretch .setpoints) value)
+  upper-fits : (levels : ℕ) → levels ≤ suc height → length (upper levels) ≤ length nodes
+  upper-fits levels in-tree = omega (arith, fits .room, fewer-levels (stretch .band) height (stretch .setpoints) value levels (suc height) in-tree)
 
-  abbrev next : ℕ
-  next = length (levelTerms (fits .stretch .band) depth height (fits .stretch .setpoints) 1 value)
+  -- they are the same for all setpoints whose answers the stretch holds
+  for-each : (levels first : ℕ) {nodes′ : List ℕ} {values′ : List ℤ} {count : ℕ} → min levels (suc height) ≡ first → Traced (upper first) nodes nodes′ values values′ count
+      → UpperTraced levels scratch height value nodes nodes′ values values′ count
+  for-each levels first first-is traced = record {
+    each = λ band setpoints solved.
+        rw (first-is, same-upper band (stretch .band) first height setpoints (stretch .setpoints) (at scratch) value solved (stretch .solved)) traced;
+  }
 
-  count-is : count ≡ before
-  count-is = so-far .each (fits .stretch .band) (fits .stretch .setpoints) (fits .stretch .solved) .count-is
+  -- those that are written so far
+  so-far : {levels : ℕ} {nodes′ : List ℕ} {values′ : List ℤ} {count : ℕ} (first : ℕ) → min levels (suc height) ≡ first
+      → UpperTraced levels scratch height value nodes nodes′ values values′ count → Traced (upper first) nodes nodes′ values values′ count
+  so-far first first-is traced = rw first-is at (traced .each (stretch .band) (stretch .setpoints) (stretch .solved))
 
-  -- fewer levels fit where all do
-  before-fits : before ≤ length nodes
-  before-fits = omega (arith, fits .room, fewer-levels (fits .stretch .band) height (fits .stretch .setpoints) value depth (suc height) (so-far .in-tree))
+  -- the slices are as long as before
+  pub upper-long : {levels : ℕ} {nodes′ : List ℕ} {values′ : List ℤ} {count : ℕ} → UpperTraced levels scratch height value nodes nodes′ values values′ count
+      → (length nodes′ ≡ length nodes) × (length values′ ≡ length nodes)
+  upper-long {levels} traced =
+      traced-long (traced .each (stretch .band) (stretch .setpoints) (stretch .solved)) (upper-fits (min levels (suc height)) (omega arith)) (fits .same-room)
 
-  pub so-far-long : (length nodes′ ≡ length nodes) × (length values′ ≡ length nodes)
-  so-far-long = traced-long (so-far .each (fits .stretch .band) (fits .stretch .setpoints) (fits .stretch .solved)) before-fits (fits .same-room)
+  module _ {next : ℕ} (next-is : next ≡ handedOn (setAt scratch 0) value) where
+    root-handed : next ≡ handedOn (setOf (stretch .band) height (stretch .setpoints)) value
+    root-handed = next-is ∙ ap (λ (one : Answer). handedOn (one .windows) value) (top-is stretch)
 
-  pub count-within : count ≤ length nodes
-  count-within = omega (arith, count-is, before-fits)
+    -- the root
+    root-term : upper 1 ≡ withTerm 1 (change value next) []
+    unfolding upperTerms
+    root-term =
+        own-term (stretch .band) height (stretch .setpoints-within) 1 value ∙ ap (λ (handed : ℕ). withTerm 1 (change value handed) []) (sym root-handed)
+
+    pub root-fits : TermFits 1 value next nodes values 0
+    root-fits = record {
+      node-within = omega arith;
+      next-within = handed-within stretch value next root-handed;
+      room = omega (arith, ap (λ (terms : List Term). length terms) root-term, upper-fits 1 (omega arith));
+      same-room = fits .same-room;
+    }
+
+    module _ {nodes′ : List ℕ} {values′ : List ℤ} {count : ℕ} (root : Appended (withTerm 1 (change value next) []) nodes nodes′ values values′ 0 count) where
+      pub root-traced : Traced (upper 1) nodes nodes′ values values′ count
+      root-traced = rw root-term (appended-first root)
+
+      pub root-alone : height ≤ 0 → UpperTraced 2 scratch height value nodes nodes′ values values′ count
+      root-alone lone = for-each 2 1 (omega arith) root-traced
+
+    -- the next level
+    module _ (depth : ℕ) (deeper : 1 ≤ depth) (inside : depth ≤ height) {nodes′ : List ℕ} {values′ : List ℤ} {count : ℕ} (traced : Traced (upper depth) nodes nodes′ values values′ count) where
+      long : (length nodes′ ≡ length nodes) × (length values′ ≡ length nodes)
+      long = traced-long traced (upper-fits depth (omega arith)) (fits .same-room)
+
+      next-level : upper (suc depth) ≡ upper depth ++ levelTerms (stretch .band) depth height (stretch .setpoints) 1 next
+      unfolding upperTerms
+      next-level =
+          ap (λ (terms : List Term). upper depth ++ terms)
+          (terms-below (stretch .band) depth height (stretch .setpoints-within) deeper 1 value ∙ ap (levelTerms (stretch .band) depth height (stretch .setpoints) 1) (sym root-handed))
+
+      -- is called with room for its terms
+      pub level-fits : LevelFits scratch height depth 1 next nodes′ values′ count
+      level-fits =
+          let both : length (upper depth) + length (levelTerms (stretch .band) depth height (stretch .setpoints) 1 next) ≤ length nodes =
+          simp length-append at (rw next-level at (upper-fits (suc depth) (omega arith))) in
+          record {
+            stretch = stretch;
+            in-subtree = inside;
+            node-within = omega (arith, pow-mono {i = 1} {j = 10 - depth} (omega (arith, stretch .in-tree)));
+            in-set = handed-in-set stretch value next root-handed;
+            room = omega (arith, traced .count-is, long .0);
+            same-room = omega (arith, long .0, long .1);
+          }
+
+      pub level-more : {nodes″ : List ℕ} {values″ : List ℤ} {more : ℕ} → LevelTraced scratch height depth 1 next nodes′ nodes″ values′ values″ count more
+          → UpperTraced (depth + 1) scratch height value nodes nodes″ values values″ more
+      level-more level =
+          for-each (depth + 1) (suc depth) (omega arith)
+          (rw next-level (traced-further (upper-fits depth (omega arith)) (fits .same-room) traced (level .each (stretch .band) (stretch .setpoints) (stretch .solved))))
+
+    -- a turn of the loop
+    module _ {depth : ℕ} (deeper : 2 ≤ depth) (inside : depth ≤ height) {nodes′ : List ℕ} {values′ : List ℤ} {count : ℕ}
+        (traced : UpperTraced depth scratch height value nodes nodes′ values values′ count) where
+      pub turn-fits : LevelFits scratch height depth 1 next nodes′ values′ count
+      turn-fits = level-fits depth (omega arith) inside (so-far depth (omega arith) traced)
+
+      pub turn-traced : {nodes″ : List ℕ} {values″ : List ℤ} {more : ℕ} → LevelTraced scratch height depth 1 next nodes′ nodes″ values′ values″ count more
+          → UpperTraced (depth + 1) scratch height value nodes nodes″ values values″ more
+      turn-traced level = level-more depth (omega arith) inside (so-far depth (omega arith) traced) level
 
   -- the terms of all levels
-  pub all-levels : height < depth → LevelsTraced scratch height value nodes nodes′ values values′ count
-  all-levels past =
-      let last : depth ≡ suc height = omega (arith, so-far .in-tree) in
-      record { each = λ band setpoints solved. rw last at (so-far .each band setpoints solved) }
+  pub all-levels : {depth : ℕ} {nodes′ : List ℕ} {values′ : List ℤ} {count : ℕ} → height < depth → UpperTraced depth scratch height value nodes nodes′ values values′ count
+      → LevelsTraced scratch height value nodes nodes′ values values′ count
+  all-levels {depth} past traced =
+      let all : min depth (suc height) ≡ suc height = omega arith in
+      record { each = λ band setpoints solved. rw all at (traced .each band setpoints solved) }
 
-  module _ (inside : depth ≤ height) where
-    next-fits : before + next ≤ length nodes
-    unfolding upperTerms
-    next-fits =
-        let all = fewer-levels (fits .stretch .band) height (fits .stretch .setpoints) value (suc depth) (suc height) (omega arith) in
-        let with-next : length (upperTerms (fits .stretch .band) (suc depth) height (fits .stretch .setpoints) value) ≡ before + next = simp length-append in
-        omega (arith, fits .room)
-
-    -- the next level is called with room for its terms
-    pub level-fits : LevelFits scratch height depth 1 value (take (length nodes′ - count) (drop count nodes′)) (take (length values′ - count) (drop count values′))
-    level-fits =
-        let rest-of-nodes = mid-len count (length nodes′) nodes′ (omega arith) in
-        let rest-of-values = mid-len count (length values′) values′ (omega arith) in
-        record {
-          stretch = fits .stretch;
-          in-subtree = inside;
-          node-within = omega (arith, pow-mono {i = 1} {j = 10 - depth} (omega (arith, fits .stretch .in-tree)));
-          value-within = fits .value-within;
-          room = omega (arith, next-fits, count-is, rest-of-nodes, so-far-long .0);
-          same-room = omega (arith, rest-of-nodes, rest-of-values, so-far-long .0, so-far-long .1);
-        }
-
-    module _ {nodes″ : List ℕ} {values″ : List ℤ} {more : ℕ}
-        (level : LevelTraced scratch height depth 1 value (take (length nodes′ - count) (drop count nodes′)) nodes″ (take (length values′ - count) (drop count values′)) values″ more) where
-      pub more-within : count + more ≤ length nodes
-      more-within = omega (arith, next-fits, count-is, level .each (fits .stretch .band) (fits .stretch .setpoints) (fits .stretch .solved) .count-is)
-
-      -- one level more
-      pub one-more-level : LevelsSoFar scratch height value nodes (putMid count (length nodes′ - count) nodes′ nodes″) values
-          (putMid count (length values′ - count) values′ values″) (count + more) (depth + 1)
-      unfolding upperTerms
-      one-more-level = record {
-        in-tree = omega arith;
-        each = λ band setpoints solved.
-            let earlier = so-far .each band setpoints solved in
-            let later = level .each band setpoints solved in
-            let room : length (upperTerms band depth height setpoints value ++ levelTerms band depth height setpoints 1 value) ≤ length nodes =
-            simp length-append (omega (arith, more-within, earlier .count-is, later .count-is)) in
-            rw (add-one depth) (traced-further room (fits .same-room) earlier later);
-      }
+-- whatever the terms of the first two levels were written over, those of the first `depth` levels now are
+pub record LevelsSince (scratch : List ℤ) (height value : ℕ) (nodes nodes′ : List ℕ) (values values′ : List ℤ) (top count depth : ℕ) : Type 0 where
+  pub deeper : 2 ≤ depth
+  pub traced : {nodes₀ : List ℕ} {values₀ : List ℤ} → LevelsFit scratch height value nodes₀ values₀ → UpperTraced 2 scratch height value nodes₀ nodes values₀ values top
+      → UpperTraced depth scratch height value nodes₀ nodes′ values₀ values′ count

@@ -1,209 +1,241 @@
--- One level below a node: the stretches of the node's two children, and the terms below it as those below the left and the right child.
-use mathlib.Core.Path.{_≡_, sym, ap, ap₂, _∙_, subst}
+-- One level below a node that hands on a value: the terms there are those below the left and those below the right child, each with the value that the child hands on.
+use mathlib.Core.Path.{_≡_, refl, sym, ap, ap₂, subst, _∙_}
+use mathlib.Core.Bool.{true}
 use mathlib.Core.List.{List, [], _++_}
-use Prim.Native.Nat.{ℕ, suc, _+_, _*_, _-_, _^_, _≤_, _<_}
+use mathlib.Core.Option.{Option}
+use Prim.Native.Nat.{ℕ, zero, suc, _+_, _*_, _-_, _^_, _≤_, _<_}
 use native.Mathlib.Omega.{arith}
+use lib.Dec.{T}
 use lib.IntN.{ℤ}
 use lib.ListN.{length, take, drop, length-append}
 use lib.Pow.{pow-mono}
-use borrow.Rule.Slice.PartMut.{putMid, mid-len}
 use Rattle.histogram.specs.declared.Term.{Term}
 use Rattle.claims.specs.Inner.{withTerm}
+use Rattle.windows.specs.Windows.{Window, covers}
 use Rattle.windows.specs.Scratch.{at}
-use Rattle.windows.proofs.Reading.{at-part}
+use Rattle.windows.proofs.Sets.{covers-within}
 use Rattle.subtree.specs.Answer.{Answer, answer}
-use Rattle.subtree.specs.Stretch.{ownPlaces, places, Solved, Planned}
-use Rattle.subtree.proofs.Answers.{answer-sorted, answer-bounded, within-take, within-drop}
-use Rattle.subtree.proofs.Places.{own-first}
-use Rattle.subtree.proofs.Solving.{solved-top, solved-same, count-of}
-use Rattle.trace.specs.Trace.{choice, handedOn, levelTerms, topSet, Answered, SolvedStretch, TermFits, LevelFits, Traced, LevelTraced}
-use Rattle.trace.proofs.Chosen.{handed-on-within, top-filled}
-use Rattle.trace.proofs.Traced.{traced-further, traced-long}
+use Rattle.subtree.specs.Stretch.{Within, Planned}
+use Rattle.subtree.proofs.Answers.{answer-sorted, answer-bounded}
+use Rattle.trace.specs.Trace.{change, handedOn, levelTerms, setAt, SolvedStretch, HandedDown, TermFits, LevelFits, Appended, LevelTraced}
+use Rattle.trace.proofs.Chosen.{handed-on-inside, handed-on-in-set, handed-on-twice, choice-is-change}
+use Rattle.trace.proofs.Siblings.{no-terms}
+use Rattle.trace.proofs.Stretches.{top-is, left-is, right-is, left-stretch, right-stretch, same-level}
+use Rattle.trace.proofs.Traced.{none-appended, appended-long, appended-further}
 
--- ---- the top of a stretch
+-- ---- the value that a node hands on
 
--- the set on top is the answer's
-top-is : (band height : ℕ) (setpoints scratch : List ℤ) → Solved band height setpoints (at scratch) → topSet scratch ≡ answer band height setpoints .windows
-top-is band height setpoints scratch solved = ap (λ (one : Answer). one .windows) (solved-top band height setpoints (at scratch) solved)
+-- the set of an answer
+abbrev pub setOf : ℕ → ℕ → List ℤ → List Window
+setOf band height setpoints = answer band height setpoints .windows
 
-pub answered : {height : ℕ} {scratch : List ℤ} → SolvedStretch height scratch → Answered scratch
-answered {height} {scratch} stretch =
-    let bounds = answer-bounded (stretch .band) height (stretch .setpoints) in
-    let count : at scratch 1 ≡ length (answer (stretch .band) height (stretch .setpoints) .windows) =
-    count-of (at scratch) 0 _ (solved-top (stretch .band) height (stretch .setpoints) (at scratch) (stretch .solved)) in
-    record {
-      room = omega (arith, own-first height, bounds .few, stretch .long);
-      not-empty = omega (arith, bounds .some);
-      sorted = rw (top-is (stretch .band) height (stretch .setpoints) scratch (stretch .solved)) (answer-sorted (stretch .setpoints-within) (stretch .band) height);
-    }
+module _ (band height : ℕ) {setpoints : List ℤ} (within : Within setpoints) (node value : ℕ) where
+  -- the node's own term is what changes the value
+  pub own-term : levelTerms band 0 height setpoints node value ≡ withTerm node (change value (handedOn (setOf band height setpoints) value)) []
+  unfolding levelTerms
+  own-term =
+      ap (λ (term : Option ℕ). withTerm node term [])
+      (choice-is-change (setOf band height setpoints) (answer-sorted within band height) (answer-bounded band height setpoints .some) value)
 
-module _ {scratch : List ℤ} {height depth node value : ℕ} {nodes : List ℕ} {values : List ℤ} (fits : LevelFits scratch height depth node value nodes values) where
+-- the terms below the node go by the value that it hands on
+pub terms-below : (band depth height : ℕ) {setpoints : List ℤ} → Within setpoints → 1 ≤ depth → (node value : ℕ)
+    → levelTerms band depth height setpoints node value ≡ levelTerms band depth height setpoints node (handedOn (setOf band height setpoints) value)
+unfolding levelTerms
+terms-below band zero height within deeper node value = absurd (omega arith)
+terms-below band (suc depth) zero within deeper node value = refl
+terms-below band (suc depth) (suc height) {setpoints} within deeper node value =
+    rw (handed-on-twice (setOf band (suc height) setpoints) (answer-sorted within band (suc height)) (answer-bounded band (suc height) setpoints .some) value)
+
+module _ {height : ℕ} {scratch : List ℤ} (stretch : SolvedStretch height scratch) (value next : ℕ) (next-is : next ≡ handedOn (setOf (stretch .band) height (stretch .setpoints)) value) where
+  -- that value is in the node's set
+  pub handed-in-set : covers (setAt scratch 0) next ≡ true
+  handed-in-set =
+      subst (λ (one : Answer). covers (one .windows) next ≡ true) (sym (top-is stretch))
+      (rw next-is
+      (handed-on-in-set (setOf (stretch .band) height (stretch .setpoints)) (answer-sorted (stretch .setpoints-within) (stretch .band) height)
+      (answer-bounded (stretch .band) height (stretch .setpoints) .some) value))
+
+  -- and at most 40,000
+  pub handed-within : next ≤ 40000
+  handed-within =
+      covers-within (setOf (stretch .band) height (stretch .setpoints)) 0 next (answer-sorted (stretch .setpoints-within) (stretch .band) height)
+      (subst T (sym (subst (λ (one : Answer). covers (one .windows) next ≡ true) (top-is stretch) handed-in-set)) tt)
+
+-- ---- the terms of a level
+
+module _ {scratch : List ℤ} {height depth node value : ℕ} {nodes : List ℕ} {values : List ℤ} {count : ℕ} (fits : LevelFits scratch height depth node value nodes values count) where
+  abbrev stretch : SolvedStretch height scratch
+  stretch = fits .stretch
+
+  abbrev terms : List Term
+  terms = levelTerms (stretch .band) depth height (stretch .setpoints) node value
+
   pub node-small : node < 1024
   node-small = omega (arith, fits .node-within, pow-mono {i = 10 - depth} {j = 10} (omega arith))
 
-  -- the term of the node itself
-  pub term-fits : depth ≤ 0 → TermFits scratch node value nodes values
-  unfolding levelTerms
-  term-fits last =
-      let here : depth ≡ 0 = omega arith in
-      record {
-        answered = answered (fits .stretch);
-        node-within = node-small;
-        room = rw (top-is (fits .stretch .band) height (fits .stretch .setpoints) scratch (fits .stretch .solved)) (rw here at (fits .room));
-        same-room = fits .same-room;
-      }
+  in-top-set : covers (setOf (stretch .band) height (stretch .setpoints)) value ≡ true
+  in-top-set = subst (λ (one : Answer). covers (one .windows) value ≡ true) (top-is stretch) (fits .in-set)
 
-  pub term-traced : {nodes′ : List ℕ} {values′ : List ℤ} {count : ℕ} → depth ≤ 0 → Traced (withTerm node (choice (topSet scratch) value) []) nodes nodes′ values values′ count
-      → LevelTraced scratch height depth node value nodes nodes′ values values′ count
-  unfolding levelTerms
-  term-traced last traced =
-      let here : depth ≡ 0 = omega arith in
-      record { each = λ band setpoints solved. rw here (rw (top-is band height setpoints scratch solved) at traced) }
+  -- they are the same for all setpoints whose answers the stretch holds
+  for-each : {nodes′ : List ℕ} {values′ : List ℤ} {count′ : ℕ} → Appended terms nodes nodes′ values values′ count count′
+      → LevelTraced scratch height depth node value nodes nodes′ values values′ count count′
+  for-each appended = record {
+    each = λ band setpoints solved. rw (same-level band (stretch .band) depth height setpoints (stretch .setpoints) (at scratch) node value solved (stretch .solved)) appended;
+  }
 
--- ---- the stretches of the children
+  -- none where the node's number is 0
+  pub none-below : at scratch 0 ≡ 0 → LevelTraced scratch height depth node value nodes nodes values values count count
+  none-below none =
+      let number : answer (stretch .band) height (stretch .setpoints) .number ≡ 0 = sym (ap (λ (one : Answer). one .number) (top-is stretch)) ∙ none in
+      for-each (rw (no-terms (stretch .band) depth height node value (stretch .setpoints-within) number in-top-set) (none-appended nodes values count))
 
--- a stretch within another, as a part of it
-part-solved : (band height : ℕ) (setpoints scratch : List ℤ) (start end : ℕ) {from : ℕ} → from ≡ start → end ≡ start + places height
-    → Solved band height setpoints (λ place. at scratch (from + place)) → Solved band height setpoints (at (take (end - start) (drop start scratch)))
-part-solved band height setpoints scratch start end same-start end-is solved =
-    solved-same band height setpoints _ (at (take (end - start) (drop start scratch)))
-    (λ place inside. ap (λ (from : ℕ). at scratch (from + place)) same-start ∙ sym (at-part scratch start (end - start) place (omega arith))) solved
+  -- in two parts, one written behind the other
+  module _ (left-terms right-terms : List Term) (both : terms ≡ left-terms ++ right-terms) where
+    pub room-for-both : count + (length left-terms + length right-terms) ≤ length nodes
+    room-for-both = simp length-append at (rw both at (fits .room))
 
--- a solved stretch holds those of the two children
-module _ {height half own middle end : ℕ} (planned : Planned height half own middle end) (scratch : List ℤ) (band : ℕ) (setpoints : List ℤ)
-    (solved : Solved band height setpoints (at scratch)) where
-  both-solved : Solved band (suc (height - 1)) setpoints (at scratch)
-  both-solved = subst (λ (of : ℕ). Solved band of setpoints (at scratch)) (planned .below) solved
+    module _ {nodes′ : List ℕ} {values′ : List ℤ} {first : ℕ} (left : Appended left-terms nodes nodes′ values values′ count first) where
+      -- the slices are as long as before
+      pub first-long : (length nodes′ ≡ length nodes) × (length values′ ≡ length nodes)
+      first-long = appended-long left (omega (arith, room-for-both)) (fits .same-room)
 
-  solved-left : Solved band (height - 1) (take (2 ^ (height - 1)) setpoints) (at (take (middle - own) (drop own scratch)))
-  unfolding Solved
-  solved-left =
-      part-solved band (height - 1) (take (2 ^ (height - 1)) setpoints) scratch own middle (omega (arith, planned .own-is, ap ownPlaces (planned .below))) (planned .middle-is) (both-solved .1)
+      -- and have room for the second part
+      pub room-left : first + length right-terms ≤ length nodes′
+      room-left = omega (arith, room-for-both, left .count-is, first-long .0)
 
-  solved-right : Solved band (height - 1) (drop (2 ^ (height - 1)) setpoints) (at (take (end - middle) (drop middle scratch)))
-  unfolding Solved
-  solved-right =
-      part-solved band (height - 1) (drop (2 ^ (height - 1)) setpoints) scratch middle end (omega (arith, planned .own-is, planned .middle-is, ap ownPlaces (planned .below))) (planned .end-is)
-      (both-solved .2)
+      pub same-room-left : length values′ ≡ length nodes′
+      same-room-left = omega (arith, first-long .0, first-long .1)
 
--- ---- the terms below the children
+      pub both-traced : {nodes″ : List ℕ} {values″ : List ℤ} {second : ℕ} → Appended right-terms nodes′ nodes″ values′ values″ first second
+          → LevelTraced scratch height depth node value nodes nodes″ values values″ count second
+      both-traced right = for-each (rw both (appended-further (omega (arith, room-for-both)) (fits .same-room) left right))
 
--- the terms of a level that lie below the left and below the right child, which both get the value that is handed on
-abbrev leftTerms : (band depth height : ℕ) → List ℤ → (node next : ℕ) → List Term
-leftTerms band depth height setpoints node next = levelTerms band (depth - 1) (height - 1) (take (2 ^ (height - 1)) setpoints) (2 * node) next
+-- ---- the children
 
-abbrev rightTerms : (band depth height : ℕ) → List ℤ → (node next : ℕ) → List Term
-rightTerms band depth height setpoints node next = levelTerms band (depth - 1) (height - 1) (drop (2 ^ (height - 1)) setpoints) (2 * node + 1) next
-
--- a node with a level below it, the places of its children's stretches, and the value that it hands on
-pub record Descent (scratch : List ℤ) (height depth node value : ℕ) (nodes : List ℕ) (values : List ℤ) (half own middle end next : ℕ) : Type 0 where
-  pub fits : LevelFits scratch height depth node value nodes values
-  pub deeper : 0 < depth
+-- a node with a level `below` its children, the places of the children's answers, and the values that they hand on
+pub record Descent (scratch : List ℤ) (height depth below node value : ℕ) (nodes : List ℕ) (values : List ℤ) (count half own middle end left right : ℕ) : Type 0 where
+  pub fits : LevelFits scratch height depth node value nodes values count
+  pub deeper : depth ≡ suc below
   pub planned : Planned height half own middle end
-  pub next-is : next ≡ handedOn (topSet scratch) value
+  pub handed : HandedDown scratch own middle value left right
 
-module _ {scratch : List ℤ} {height depth node value : ℕ} {nodes : List ℕ} {values : List ℤ} {half own middle end next : ℕ}
-    (descent : Descent scratch height depth node value nodes values half own middle end next) where
-  both-terms : (band : ℕ) (setpoints : List ℤ) → Solved band height setpoints (at scratch)
-      → levelTerms band depth height setpoints node value ≡ leftTerms band depth height setpoints node next ++ rightTerms band depth height setpoints node next
+module _ {scratch : List ℤ} {height depth below node value : ℕ} {nodes : List ℕ} {values : List ℤ} {count half own middle end left right : ℕ}
+    (descent : Descent scratch height depth below node value nodes values count half own middle end left right) where
+  abbrev whole : SolvedStretch height scratch
+  whole = descent .fits .stretch
+
+  abbrev on-left : SolvedStretch (height - 1) (take (middle - own) (drop own scratch))
+  on-left = left-stretch (descent .planned) whole
+
+  abbrev on-right : SolvedStretch (height - 1) (take (end - middle) (drop middle scratch))
+  on-right = right-stretch (descent .planned) whole
+
+  -- the terms below each child where a value comes in
+  abbrev leftTerms : ℕ → List Term
+  leftTerms = levelTerms (whole .band) below (height - 1) (on-left .setpoints) (2 * node)
+
+  abbrev rightTerms : ℕ → List Term
+  rightTerms = levelTerms (whole .band) below (height - 1) (on-right .setpoints) (2 * node + 1)
+
+  -- both children get the value that the node hands on
+  both-terms : terms (descent .fits) ≡ leftTerms value ++ rightTerms value
   unfolding levelTerms
-  both-terms band setpoints solved =
-      let above : depth ≡ suc (depth - 1) = omega (arith, descent .deeper) in
-      rw (descent .next-is, top-is band (suc (height - 1)) setpoints scratch (both-solved (descent .planned) scratch band setpoints solved))
-      (ap₂ (λ (levels of : ℕ). levelTerms band levels of setpoints node value) above (descent .planned .below))
+  both-terms =
+      let inside : covers (setOf (whole .band) (suc (height - 1)) (whole .setpoints)) value ≡ true =
+      subst (λ (of : ℕ). covers (setOf (whole .band) of (whole .setpoints)) value ≡ true) (descent .planned .below) (in-top-set (descent .fits)) in
+      ap₂ (λ (levels of : ℕ). levelTerms (whole .band) levels of (whole .setpoints) node value) (descent .deeper) (descent .planned .below)
+      ∙ ap (λ (next : ℕ). leftTerms next ++ rightTerms next) (handed-on-inside (setOf (whole .band) (suc (height - 1)) (whole .setpoints)) value inside)
 
-  -- a band and setpoints that the stretch holds the answers of
-  abbrev stretch : SolvedStretch height scratch
-  stretch = descent .fits .stretch
+  pub left-handed : left ≡ handedOn (setOf (whole .band) (height - 1) (on-left .setpoints)) value
+  left-handed = descent .handed .left-is ∙ ap (λ (one : Answer). handedOn (one .windows) value) (left-is (descent .planned) whole)
 
-  room-for-both : length (leftTerms (stretch .band) depth height (stretch .setpoints) node next) + length (rightTerms (stretch .band) depth height (stretch .setpoints) node next) ≤ length nodes
-  room-for-both = simp length-append at (rw (both-terms (stretch .band) (stretch .setpoints) (stretch .solved)) at (descent .fits .room))
+  pub right-handed : right ≡ handedOn (setOf (whole .band) (height - 1) (on-right .setpoints)) value
+  right-handed = descent .handed .right-is ∙ ap (λ (one : Answer). handedOn (one .windows) value) (right-is (descent .planned) whole)
 
-  next-within : next ≤ 40000
-  next-within = let top = answered stretch in rw (descent .next-is) (handed-on-within (topSet scratch) (top .sorted) (top-filled top) value (descent .fits .value-within))
-
-  child-within : (child : ℕ) → child ≤ 2 * node + 1 → child < 2 ^ (10 - (depth - 1))
+  child-within : (child : ℕ) → child ≤ 2 * node + 1 → child < 2 ^ (10 - below)
   child-within child below-node =
-      let above : 2 ^ (10 - (depth - 1)) ≡ 2 ^ suc (10 - depth) = ap (λ (levels : ℕ). 2 ^ levels) (omega (arith, descent .deeper, descent .fits .in-subtree, stretch .in-tree)) in
+      let above : 2 ^ (10 - below) ≡ 2 ^ suc (10 - depth) = ap (λ (levels : ℕ). 2 ^ levels) (omega (arith, descent .deeper, descent .fits .in-subtree, whole .in-tree)) in
       omega (arith, descent .fits .node-within)
 
-  -- the left child is called with room for the terms below it
-  pub left-fits : LevelFits (take (middle - own) (drop own scratch)) (height - 1) (depth - 1) (2 * node) next nodes values
-  left-fits =
-      let planned = descent .planned in
-      record {
-        stretch =
-            record {
-              band = stretch .band;
-              setpoints = take (2 ^ (height - 1)) (stretch .setpoints);
-              setpoints-within = within-take (stretch .setpoints-within) (2 ^ (height - 1));
-              solved = solved-left planned scratch (stretch .band) (stretch .setpoints) (stretch .solved);
-              in-tree = omega (arith, stretch .in-tree);
-              long = rw (mid-len own middle scratch (omega (arith, planned .end-is, planned .all-places, stretch .long))) (omega (arith, planned .middle-is));
-            };
-        in-subtree = omega (arith, descent .fits .in-subtree);
-        node-within = child-within (2 * node) (omega arith);
-        value-within = next-within;
-        room = omega (arith, room-for-both);
-        same-room = descent .fits .same-room;
+  -- ---- where the level is further below
+
+  module _ (further : 1 ≤ below) where
+    -- so does what is below them
+    pub both-below : terms (descent .fits) ≡ leftTerms left ++ rightTerms right
+    both-below =
+        both-terms
+        ∙ ap₂ _++_ (terms-below (whole .band) below (height - 1) (on-left .setpoints-within) further (2 * node) value ∙ ap leftTerms (sym left-handed))
+        (terms-below (whole .band) below (height - 1) (on-right .setpoints-within) further (2 * node + 1) value ∙ ap rightTerms (sym right-handed))
+
+    -- the left child is called with room for the terms below it
+    pub left-fits : LevelFits (take (middle - own) (drop own scratch)) (height - 1) below (2 * node) left nodes values count
+    left-fits = record {
+      stretch = on-left;
+      in-subtree = omega (arith, descent .fits .in-subtree, descent .deeper);
+      node-within = child-within (2 * node) (omega arith);
+      in-set = handed-in-set on-left value left left-handed;
+      room = omega (arith, room-for-both (descent .fits) (leftTerms left) (rightTerms right) both-below);
+      same-room = descent .fits .same-room;
+    }
+
+    module _ {nodes′ : List ℕ} {values′ : List ℤ} {first : ℕ}
+        (traced : LevelTraced (take (middle - own) (drop own scratch)) (height - 1) below (2 * node) left nodes nodes′ values values′ count first) where
+      abbrev left-traced : Appended (leftTerms left) nodes nodes′ values values′ count first
+      left-traced = traced .each (whole .band) (on-left .setpoints) (on-left .solved)
+
+      -- and so is the right child
+      pub right-fits : LevelFits (take (end - middle) (drop middle scratch)) (height - 1) below (2 * node + 1) right nodes′ values′ first
+      right-fits = record {
+        stretch = on-right;
+        in-subtree = omega (arith, descent .fits .in-subtree, descent .deeper);
+        node-within = child-within (2 * node + 1) (omega arith);
+        in-set = handed-in-set on-right value right right-handed;
+        room = room-left (descent .fits) (leftTerms left) (rightTerms right) both-below left-traced;
+        same-room = same-room-left (descent .fits) (leftTerms left) (rightTerms right) both-below left-traced;
       }
-
-  module _ {nodes′ : List ℕ} {values′ : List ℤ} {first : ℕ}
-      (left : LevelTraced (take (middle - own) (drop own scratch)) (height - 1) (depth - 1) (2 * node) next nodes nodes′ values values′ first) where
-    left-traced : (band : ℕ) (setpoints : List ℤ) → Solved band height setpoints (at scratch) → Traced (leftTerms band depth height setpoints node next) nodes nodes′ values values′ first
-    left-traced band setpoints solved = left .each band (take (2 ^ (height - 1)) setpoints) (solved-left (descent .planned) scratch band setpoints solved)
-
-    -- the slices are as long as before
-    pub left-long : (length nodes′ ≡ length nodes) × (length values′ ≡ length nodes)
-    left-long = traced-long (left-traced (stretch .band) (stretch .setpoints) (stretch .solved)) (omega (arith, room-for-both)) (descent .fits .same-room)
-
-    -- and have room for the terms below the right child
-    pub room-left : first + length (rightTerms (stretch .band) depth height (stretch .setpoints) node next) ≤ length nodes
-    room-left = omega (arith, room-for-both, left-traced (stretch .band) (stretch .setpoints) (stretch .solved) .count-is)
-
-    -- so the right child is called with room for them
-    pub right-fits : LevelFits (take (end - middle) (drop middle scratch)) (height - 1) (depth - 1) (2 * node + 1) next
-        (take (length nodes′ - first) (drop first nodes′)) (take (length values′ - first) (drop first values′))
-    right-fits =
-        let planned = descent .planned in
-        let rest-of-nodes = mid-len first (length nodes′) nodes′ (omega arith) in
-        let rest-of-values = mid-len first (length values′) values′ (omega arith) in
-        record {
-          stretch =
-              record {
-                band = stretch .band;
-                setpoints = drop (2 ^ (height - 1)) (stretch .setpoints);
-                setpoints-within = within-drop (stretch .setpoints-within) (2 ^ (height - 1));
-                solved = solved-right planned scratch (stretch .band) (stretch .setpoints) (stretch .solved);
-                in-tree = omega (arith, stretch .in-tree);
-                long = rw (mid-len middle end scratch (omega (arith, planned .all-places, stretch .long))) (omega (arith, planned .end-is));
-              };
-          in-subtree = omega (arith, descent .fits .in-subtree);
-          node-within = child-within (2 * node + 1) (omega arith);
-          value-within = next-within;
-          room = omega (arith, room-left, rest-of-nodes, left-long .0);
-          same-room = omega (arith, rest-of-nodes, rest-of-values, left-long .0, left-long .1);
-        }
-
-    module _ {nodes″ : List ℕ} {values″ : List ℤ} {second : ℕ}
-        (right : LevelTraced (take (end - middle) (drop middle scratch)) (height - 1) (depth - 1) (2 * node + 1) next
-        (take (length nodes′ - first) (drop first nodes′)) nodes″ (take (length values′ - first) (drop first values′)) values″ second) where
-      right-traced : (band : ℕ) (setpoints : List ℤ) → Solved band height setpoints (at scratch)
-          → Traced (rightTerms band depth height setpoints node next) (take (length nodes′ - first) (drop first nodes′)) nodes″
-          (take (length values′ - first) (drop first values′)) values″ second
-      right-traced band setpoints solved = right .each band (drop (2 ^ (height - 1)) setpoints) (solved-right (descent .planned) scratch band setpoints solved)
-
-      pub both-in-room : first + second ≤ length nodes
-      both-in-room = omega (arith, room-left, right-traced (stretch .band) (stretch .setpoints) (stretch .solved) .count-is)
 
       -- both together are the terms below the node
-      pub both-traced : LevelTraced scratch height depth node value nodes (putMid first (length nodes′ - first) nodes′ nodes″) values
-          (putMid first (length values′ - first) values′ values″) (first + second)
-      both-traced = record {
-        each = λ band setpoints solved.
-            let on-left = left-traced band setpoints solved in
-            let on-right = right-traced band setpoints solved in
-            let room : length (leftTerms band depth height setpoints node next ++ rightTerms band depth height setpoints node next) ≤ length nodes =
-            simp length-append (omega (arith, both-in-room, on-left .count-is, on-right .count-is)) in
-            rw (both-terms band setpoints solved) (traced-further room (descent .fits .same-room) on-left on-right);
-      }
+      pub level-traced : {nodes″ : List ℕ} {values″ : List ℤ} {second : ℕ}
+          → LevelTraced (take (end - middle) (drop middle scratch)) (height - 1) below (2 * node + 1) right nodes′ nodes″ values′ values″ first second
+          → LevelTraced scratch height depth node value nodes nodes″ values values″ count second
+      level-traced right-traced =
+          both-traced (descent .fits) (leftTerms left) (rightTerms right) both-below left-traced (right-traced .each (whole .band) (on-right .setpoints) (on-right .solved))
+
+-- ---- where it is the level of the children
+
+module _ {scratch : List ℤ} {height node value : ℕ} {nodes : List ℕ} {values : List ℤ} {count half own middle end left right : ℕ}
+    (descent : Descent scratch height 1 0 node value nodes values count half own middle end left right) where
+  abbrev leftTerm : List Term
+  leftTerm = withTerm (2 * node) (change value left) []
+
+  abbrev rightTerm : List Term
+  rightTerm = withTerm (2 * node + 1) (change value right) []
+
+  both-own : terms (descent .fits) ≡ leftTerm ++ rightTerm
+  both-own =
+      both-terms descent
+      ∙ ap₂ _++_
+      (own-term (whole descent .band) (height - 1) (on-left descent .setpoints-within) (2 * node) value ∙ ap (λ (next : ℕ). withTerm (2 * node) (change value next) []) (sym (left-handed descent)))
+      (own-term (whole descent .band) (height - 1) (on-right descent .setpoints-within) (2 * node + 1) value
+      ∙ ap (λ (next : ℕ). withTerm (2 * node + 1) (change value next) []) (sym (right-handed descent)))
+
+  pub left-term-fits : TermFits (2 * node) value left nodes values count
+  left-term-fits = record {
+    node-within = child-within descent (2 * node) (omega arith);
+    next-within = handed-within (on-left descent) value left (left-handed descent);
+    room = omega (arith, room-for-both (descent .fits) leftTerm rightTerm both-own);
+    same-room = descent .fits .same-room;
+  }
+
+  module _ {nodes′ : List ℕ} {values′ : List ℤ} {first : ℕ} (written : Appended leftTerm nodes nodes′ values values′ count first) where
+    pub right-term-fits : TermFits (2 * node + 1) value right nodes′ values′ first
+    right-term-fits = record {
+      node-within = child-within descent (2 * node + 1) (omega arith);
+      next-within = handed-within (on-right descent) value right (right-handed descent);
+      room = room-left (descent .fits) leftTerm rightTerm both-own written;
+      same-room = same-room-left (descent .fits) leftTerm rightTerm both-own written;
+    }
+
+    pub children-traced : {nodes″ : List ℕ} {values″ : List ℤ} {second : ℕ} → Appended rightTerm nodes′ nodes″ values′ values″ first second
+        → LevelTraced scratch height 1 node value nodes nodes″ values values″ count second
+    children-traced right-written = both-traced (descent .fits) leftTerm rightTerm both-own written right-written

@@ -1,12 +1,13 @@
 // Tracing: the walk that reads the solved scratch from the root down and writes the terms of a smallest synopsis.
+// A node hands on to its children the value that comes in where that is in the node's set, else the lowest value of the set, and then it has a term.
 use subtree::plan;
 use windows::is_covered;
 use windows::load;
 ghost use mathlib.Core.Path.{_≡_};
 ghost use mathlib.Core.List.{[]};
+ghost use Prim.Native.Nat.{_≤_};
 ghost use Rattle.claims.specs.Inner.{withTerm};
-ghost use Rattle.windows.specs.Windows.{covers};
-ghost use Rattle.trace.specs.Trace.{choice, handedOn, topSet, Answered, TermFits, LevelFits, LevelsFit, Traced, LevelTraced, LevelsTraced};
+ghost use Rattle.trace.specs.Trace.{change, handedOn, setAt, Answered, TermFits, Handing, HandedDown, LevelFits, LevelsFit, Appended, LevelTraced, UpperTraced, LevelsTraced};
 
 // Writes the terms of all levels, one level after the other, over the fronts of two slices; the answer is how many.
 pub fn trace(
@@ -19,25 +20,38 @@ pub fn trace(
     requires { ⌜ LevelsFit (now scratch) height value (now nodes) (now values) ⌝ }
     ensures { λ r. ⌜ LevelsTraced (now (scratch .entry)) height value (now (nodes .entry)) (now (nodes .exit)) (now (values .entry)) (now (values .exit)) r ⌝ }
 {
-    let mut count = 0;
-    let mut depth = 0;
+    let next = hand_on(scratch, value);
+    let mut count = trace_top(scratch, height, value, next, nodes, values);
+    let mut depth = 2;
     while depth <= height {
-        let more = trace_level(
-            scratch,
-            height,
-            depth,
-            1,
-            value,
-            &mut nodes[count..],
-            &mut values[count..],
-        );
-        count += more;
+        count = trace_level(scratch, height, depth, 1, next, nodes, values, count);
         depth += 1;
     }
     count
 }
 
-// Writes the terms `depth` levels below a node over the fronts of two slices; the answer is how many.
+// Writes the terms of the root and of its children over the fronts of two slices; the answer is how many.
+fn trace_top(
+    scratch: &[i16],
+    height: usize,
+    value: usize,
+    next: usize,
+    nodes: &mut [u16],
+    values: &mut [i16],
+) -> usize
+    requires { ⌜ LevelsFit (now scratch) height value (now nodes) (now values) × (next ≡ handedOn (setAt (now scratch) 0) value) ⌝ }
+    ensures { λ r. ⌜ UpperTraced 2 (now (scratch .entry)) height value (now (nodes .entry)) (now (nodes .exit)) (now (values .entry)) (now (values .exit)) r ⌝ }
+{
+    let count = write_term(1, value, next, nodes, values, 0);
+    if 0 < height {
+        trace_children(scratch, height, 1, next, nodes, values, count)
+    } else {
+        count
+    }
+}
+
+// Writes the terms `depth` levels below a node that hands on `value`, behind the first `count`; the answer is how many there are then.
+// No node below one whose number is 0 has a term. The recursion ends two levels above the terms, which saves most of its calls.
 fn trace_level(
     scratch: &[i16],
     height: usize,
@@ -46,75 +60,142 @@ fn trace_level(
     value: usize,
     nodes: &mut [u16],
     values: &mut [i16],
+    count: usize,
 ) -> usize
-    requires { ⌜ LevelFits (now scratch) height depth node value (now nodes) (now values) ⌝ }
-    ensures { λ r. ⌜ LevelTraced (now (scratch .entry)) height depth node value (now (nodes .entry)) (now (nodes .exit)) (now (values .entry)) (now (values .exit)) r ⌝ }
+    requires { ⌜ (2 ≤ depth) × LevelFits (now scratch) height depth node value (now nodes) (now values) count ⌝ }
+    ensures { λ r. ⌜ LevelTraced (now (scratch .entry)) height depth node value (now (nodes .entry)) (now (nodes .exit)) (now (values .entry)) (now (values .exit)) count r ⌝ }
 {
-    if 0 < depth {
-        let parts = plan(height);
-        let own = parts.own;
-        let middle = parts.middle;
-        let end = parts.end;
-        let next = hand_on(scratch, value);
+    if load(scratch, 0) == 0 {
+        return count;
+    }
+    let parts = plan(height);
+    let own = parts.own;
+    let middle = parts.middle;
+    let end = parts.end;
+    let next = hand_down(scratch, own, middle, value);
+    let left = next.left;
+    let right = next.right;
+    if 2 < depth {
         let first = trace_level(
             &scratch[own..middle],
             height - 1,
             depth - 1,
             2 * node,
-            next,
+            left,
             nodes,
             values,
+            count,
         );
-        let second = trace_level(
+        trace_level(
             &scratch[middle..end],
             height - 1,
             depth - 1,
             2 * node + 1,
-            next,
-            &mut nodes[first..],
-            &mut values[first..],
-        );
-        first + second
+            right,
+            nodes,
+            values,
+            first,
+        )
     } else {
-        write_term(scratch, node, value, nodes, values)
+        let first = trace_children(
+            &scratch[own..middle],
+            height - 1,
+            2 * node,
+            left,
+            nodes,
+            values,
+            count,
+        );
+        trace_children(
+            &scratch[middle..end],
+            height - 1,
+            2 * node + 1,
+            right,
+            nodes,
+            values,
+            first,
+        )
     }
 }
 
-// Writes the term of a node, where it has one, over the fronts of two slices; the answer is how many.
-fn write_term(
+// Writes the terms of the children of a node that hands on `value`, behind the first `count`; the answer is how many there are then.
+fn trace_children(
     scratch: &[i16],
+    height: usize,
     node: usize,
     value: usize,
     nodes: &mut [u16],
     values: &mut [i16],
+    count: usize,
 ) -> usize
-    requires { ⌜ TermFits (now scratch) node value (now nodes) (now values) ⌝ }
-    ensures { λ r. ⌜ Traced (withTerm node (choice (topSet (now (scratch .entry))) value) []) (now (nodes .entry)) (now (nodes .exit)) (now (values .entry)) (now (values .exit)) r ⌝ }
+    requires { ⌜ LevelFits (now scratch) height 1 node value (now nodes) (now values) count ⌝ }
+    ensures { λ r. ⌜ LevelTraced (now (scratch .entry)) height 1 node value (now (nodes .entry)) (now (nodes .exit)) (now (values .entry)) (now (values .exit)) count r ⌝ }
 {
-    if is_among(scratch, value) {
-        return 0;
-    }
-    let lowest = load(scratch, 2);
-    nodes[0] = node as u16;
-    values[0] = (lowest as i32 - 20000) as i16;
-    1
+    let parts = plan(height);
+    let next = hand_down(scratch, parts.own, parts.middle, value);
+    let first = write_term(2 * node, value, next.left, nodes, values, count);
+    write_term(2 * node + 1, value, next.right, nodes, values, first)
 }
 
-// The value that a node hands on to its children.
-fn hand_on(scratch: &[i16], value: usize) -> usize
-    requires { ⌜ Answered (now scratch) ⌝ }
-    ensures { λ r. ⌜ r ≡ handedOn (topSet (now (scratch .entry))) value ⌝ }
+// Writes the term of a node, where it hands on another value than comes in, behind the first `count`; the answer is how many there are then.
+fn write_term(
+    node: usize,
+    value: usize,
+    next: usize,
+    nodes: &mut [u16],
+    values: &mut [i16],
+    count: usize,
+) -> usize
+    requires { ⌜ TermFits node value next (now nodes) (now values) count ⌝ }
+    ensures { λ r. ⌜ Appended (withTerm node (change value next) []) (now (nodes .entry)) (now (nodes .exit)) (now (values .entry)) (now (values .exit)) count r ⌝ }
 {
-    if is_among(scratch, value) {
+    if next == value {
+        return count;
+    }
+    nodes[count] = node as u16;
+    values[count] = (next as i32 - 20000) as i16;
+    count + 1
+}
+
+// What two children hand on.
+struct Handed {
+    left: usize,
+    right: usize,
+}
+
+// The values that two children hand on where a value of the node's set comes in; their answers stand at `left` and `right`.
+// Where the children's sets meet, the value is in both. Else the node's number is greater than the sum of theirs, and the value is in one of the sets.
+fn hand_down(scratch: &[i16], left: usize, right: usize, value: usize) -> Handed
+    requires { ⌜ Handing (now scratch) left right value ⌝ }
+    ensures { λ r. ⌜ HandedDown (now (scratch .entry)) left right value (r .left) (r .right) ⌝ }
+{
+    let numbers = load(scratch, left) + load(scratch, right);
+    if load(scratch, 0) <= numbers {
+        return Handed {
+            left: value,
+            right: value,
+        };
+    }
+    if is_covered(scratch, left + 2, load(scratch, left + 1), value) {
+        Handed {
+            left: value,
+            right: load(scratch, right + 2),
+        }
+    } else {
+        Handed {
+            left: load(scratch, left + 2),
+            right: value,
+        }
+    }
+}
+
+// The value that a node hands on: the one that comes in where it is in the node's set, else the lowest of the set.
+fn hand_on(scratch: &[i16], value: usize) -> usize
+    requires { ⌜ Answered (now scratch) 0 ⌝ }
+    ensures { λ r. ⌜ r ≡ handedOn (setAt (now (scratch .entry)) 0) value ⌝ }
+{
+    if is_covered(scratch, 2, load(scratch, 1), value) {
         return value;
     }
     load(scratch, 2)
-}
-
-// Whether a value is in the set of the node on top.
-fn is_among(scratch: &[i16], value: usize) -> bool
-    requires { ⌜ Answered (now scratch) ⌝ }
-    ensures { λ r. ⌜ r ≡ covers (topSet (now (scratch .entry))) value ⌝ }
-{
-    is_covered(scratch, 2, load(scratch, 1), value)
 }

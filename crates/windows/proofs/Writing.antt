@@ -33,7 +33,7 @@ module _ (before : List ℤ) (count low high : ℕ) (inside : 2 + 2 * count + 1 
   unfolding windowsAt
   added = windows-more _ 2 count 1 ∙ rw (kept, low-stored, high-stored)
 
-  -- the window counts as written, or not
+  -- the window is written
   pub one-written : Written (windowsAt (at before) 2 count ++ (record { low = low; high = high } ∷ [])) (2 + 2 * count + 2) before (stored before count low high) (count + 1)
   one-written =
       record {
@@ -43,15 +43,16 @@ module _ (before : List ℤ) (count low high : ℕ) (inside : 2 + 2 * count + 1 
         others-same = λ place above. elsewhere place (λ same. omega arith) (λ same. omega arith);
       }
 
-  pub none-written : Written (windowsAt (at before) 2 count ++ []) (2 + 2 * count + 2) before (stored before count low high) count
-  none-written =
-      rw append-nil
-      (record {
-        count-is = sym (windows-length (at before) 2 count);
-        windows-are = kept;
-        header-same = λ place below. elsewhere place (λ same. omega arith) (λ same. omega arith);
-        others-same = λ place above. elsewhere place (λ same. omega arith) (λ same. omega arith);
-      })
+-- no window is written
+pub none-written : (before : List ℤ) (count end : ℕ) → Written (windowsAt (at before) 2 count ++ []) end before before count
+none-written before count end =
+    rw append-nil
+    (record {
+      count-is = sym (windows-length (at before) 2 count);
+      windows-are = refl;
+      header-same = λ place below. refl;
+      others-same = λ place above. refl;
+    })
 
 -- ---- a list of windows in the making
 

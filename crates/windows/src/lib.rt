@@ -1,8 +1,10 @@
 // Sets of values in scratch, as sorted windows: whether a value is in a set, and what is in both or in either of two sets.
 // A stretch of scratch holds two numbers and then its windows; each window is its low end and its high end.
+use limits::larger;
+use limits::smaller;
 ghost use mathlib.Core.Path.{_≡_};
 ghost use mathlib.Core.List.{_++_};
-ghost use Prim.Native.Nat.{_+_, _*_, _≤_, _<_, min, max};
+ghost use Prim.Native.Nat.{_+_, _*_, _≤_, _<_};
 ghost use lib.ListN.{length, set};
 ghost use Rattle.windows.specs.Windows.{Sorted, covers, between, meet, join};
 ghost use Rattle.windows.specs.Scratch.{signed, at, windowsAt, Placed, Written, rightNext};
@@ -71,14 +73,17 @@ pub fn write_meet(
     count
 }
 
-// Writes the window between two ends after `count` windows, and counts it unless the ends cross.
+// Writes the window between two ends after `count` windows, unless the ends cross; the answer is how many windows there are then.
 fn write_between(scratch: &mut [i16], count: usize, low: usize, high: usize) -> usize
     requires { ⌜ (2 + 2 * count + 1 < length (now scratch)) × (low ≤ 65535) × (high ≤ 65535) ⌝ }
     ensures { λ r. ⌜ Written (windowsAt (at (now (scratch .entry))) 2 count ++ between low high) (2 + 2 * count + 2) (now (scratch .entry)) (now (scratch .exit)) r ⌝ }
 {
+    if high < low {
+        return count;
+    }
     store(scratch, 2 + 2 * count, low);
     store(scratch, 2 + 2 * count + 1, high);
-    if low <= high { count + 1 } else { count }
+    count + 1
 }
 
 // Writes what is in either of two sets from place 2 on.
@@ -118,7 +123,7 @@ fn is_right_next(
     if lefts <= i {
         return true;
     }
-    load(scratch, right + 2 * j) < load(scratch, left + 2 * i)
+    scratch[right + 2 * j] < scratch[left + 2 * i]
 }
 
 // Copies the window at a place behind `count` windows.
@@ -130,16 +135,4 @@ fn copy_window(scratch: &mut [i16], place: usize, count: usize)
     let high = load(scratch, place + 1);
     store(scratch, 2 + 2 * count, low);
     store(scratch, 2 + 2 * count + 1, high);
-}
-
-fn larger(one: usize, other: usize) -> usize
-    ensures { λ r. ⌜ r ≡ max one other ⌝ }
-{
-    if one < other { other } else { one }
-}
-
-pub fn smaller(one: usize, other: usize) -> usize
-    ensures { λ r. ⌜ r ≡ min one other ⌝ }
-{
-    if one < other { one } else { other }
 }

@@ -1,16 +1,19 @@
--- `subtree::solve` meets its contract, by recursion on the height: both halves are solved, then their answers are combined.
-use mathlib.Core.Path.{_≡_, refl, sym, ap, _∙_}
-use Prim.Native.Nat.{ℕ, _<_, _≤_, _-_, _+_}
+-- `subtree::solve` meets its contract, by recursion on the height: both children are solved, by their own calls or as two pairs, then their answers are combined.
+use mathlib.Core.Path.{_≡_, sym, _∙_}
+use mathlib.Core.Logic.{⊎-elim}
+use Prim.Native.Nat.{ℕ, _<_, _-_, _+_}
 use native.Mathlib.Omega.{arith}
 use lib.IntN.{pos}
-use lib.ListN.{length, getD, take, drop}
+use lib.ListN.{length, getD}
 use lib.Seq.{length-take-le}
 use borrow.Author.Needs.{needs}
 use lib.Pow.{pow-pos}
 use borrow.Rule.Slice.PartMut.{mid-len, same-len-mid}
 use Rattle.limits.proofs.Signed.{element}
+use Rattle.subtree.specs.Stretch.{Halves}
 use Rattle.subtree.proofs.Places.{own-first}
 use Rattle.subtree.proofs.Solving.{left-solvable, right-solvable, halves, halves-combinable, whole-solved, both-length, leaf-whole}
+use Rattle.subtree.proofs.Pairs.{two-slots, pair-places, pair-whole, pairs-below}
 use borrow.Fn.Kinds.{In}
 use borrow.Fn.PlainCycle.{Measures, is, falls, and}
 use Rattle.subtree.proofs.solve.Reads as solve
@@ -19,6 +22,8 @@ use Rattle.subtree.proofs.+solve.Lts-solve as lts
 use Rattle.subtree.proofs.combine.Reads as combine-reads
 use Rattle.subtree.proofs.plan.Reads as plan-reads
 use Rattle.subtree.proofs.write_leaf.Reads as write-leaf-reads
+use Rattle.subtree.proofs.write_pair.Reads as write-pair-reads
+use Rattle.subtree.proofs.write_pairs.Reads as write-pairs-reads
 use Rattle.subtree.proofs.+solve.{statement}
 use Rattle.subtree.proofs.+solve.Tie.{close}
 
@@ -33,7 +38,7 @@ below-measure t = and 2 solve-kinds.ps (falls 2 solve-kinds.ps _<_ μ-solve t) s
 
 -- what is asked of each call and learnt from it
 abbrev calls : ℕ → lts.Claims
-calls t = (plan-reads.Asked, plan-reads.Learnt, below-measure t, solve.Post, combine-reads.Asked, combine-reads.Learnt, write-leaf-reads.Asked, write-leaf-reads.Learnt)
+calls t = (plan-reads.Asked, plan-reads.Learnt, below-measure t, solve.Post, write-pairs-reads.Asked, write-pairs-reads.Learnt, combine-reads.Asked, combine-reads.Learnt, write-pair-reads.Asked, write-pair-reads.Learnt, write-leaf-reads.Asked, write-leaf-reads.Learnt)
 
 module _ (t : ℕ) where
   plan-requires : lts.Need-plan-requires (calls t) (at-measure t) solve.Post
@@ -59,9 +64,9 @@ module _ (t : ℕ) where
 
   solve-requires : lts.Need-solve-requires (calls t) (at-measure t) solve.Post
   solve-requires c κs =
-      let start = c .before .before .before .before in
-      let parts = c .before .before .plan .result in
-      let planned = c .before .before .plan .ensures in
+      let start = c .before .before .before .before .before in
+      let parts = c .before .before .before .plan .result in
+      let planned = c .before .before .before .plan .ensures in
       (omega arith, left-solvable (start .args .band) (start .args .height) (parts .half) (parts .own) (parts .middle) (parts .end) (start .args .setpoints .now) (start .args .scratch .now) planned (start .pre .1))
 
   mul-solve-2 : lts.Need-mul-solve-2 (calls t) (at-measure t) solve.Post
@@ -93,57 +98,107 @@ module _ (t : ℕ) where
 
   solve-requires-2 : lts.Need-solve-requires-2 (calls t) (at-measure t) solve.Post
   solve-requires-2 c κs =
-      let start = c .before .before .before .before .before .before .before .before in
-      let parts = c .before .before .before .before .before .before .plan .result in
-      let planned = c .before .before .before .before .before .before .plan .ensures in
+      let start = c .before .before .before .before .before .before .before .before .before in
+      let parts = c .before .before .before .before .before .before .before .plan .result in
+      let planned = c .before .before .before .before .before .before .before .plan .ensures in
       let left = c .before .before .before .solve .last .1 .1 .0 in
       let left-long : length left ≡ parts .middle - parts .own = c .before .before .before .solve .kept .1 .1 .0 ∙ mid-len (parts .own) (parts .middle) (start .args .scratch .now) (omega arith) in
       (omega arith, right-solvable (start .args .band) (start .args .height) (parts .half) (parts .own) (parts .middle) (parts .end) (start .args .setpoints .now) (start .args .scratch .now) planned (start .pre .1) _ (same-len-mid (parts .own) (parts .middle - parts .own) (start .args .scratch .now) left (c .before .before .before .solve .kept .1 .1 .0)))
 
+  write-pairs-requires : lts.Need-write-pairs-requires (calls t) (at-measure t) solve.Post
+  write-pairs-requires c κs =
+      let start = c .before .before .before .before in
+      let two : start .args .height ≡ 2 = omega arith in
+      rw two at (start .pre .1)
+
+  -- both children are solved, by their own calls or as two pairs
+  children-solved : (c : lts.Joined2 (calls t) (at-measure t) solve.Post)
+      → let start = c .before .before .before in
+      let parts = c .before .plan .result in
+      Halves (start .args .band) (start .args .height - 1) (parts .own) (parts .middle) (start .args .setpoints .now) (c .if2 .scratch) × (length (c .if2 .scratch) ≡ length (start .args .scratch .now))
+  children-solved c =
+      let start = c .before .before .before in
+      let a = start .args in
+      let parts = c .before .plan .result in
+      let planned = c .before .plan .ensures in
+      ⊎-elim
+      (λ w.
+      let left = w .3 in
+      let right = w .7 in
+      rw (w .9) (
+        halves (a .band) (a .height) (parts .half) (parts .own) (parts .middle) (parts .end) (a .setpoints .now) (a .scratch .now) (left .last .1 .1 .0) (right .last .1 .1 .0) planned (omega arith)
+            (left .kept .1 .1 .0) (right .kept .1 .1 .0) (left .ensures) (right .ensures),
+        both-length (a .band) (a .height) (parts .half) (parts .own) (parts .middle) (parts .end) (a .setpoints .now) (a .scratch .now) (left .last .1 .1 .0) (right .last .1 .1 .0) planned (omega arith)
+            (left .kept .1 .1 .0) (right .kept .1 .1 .0),
+      ))
+      (λ w.
+      rw (w .4) (
+        pairs-below (a .band) (a .height) (parts .half) (parts .own) (parts .middle) (parts .end) (a .setpoints .now) (w .2 .last .1 .1 .0) (omega arith) (omega arith) planned (w .2 .ensures),
+        w .2 .kept .1 .1 .0,
+      ))
+      (c .if2 .came)
+
   combine-requires : lts.Need-combine-requires (calls t) (at-measure t) solve.Post
   combine-requires c κs =
-      let start = c .before .before .before .before .before .before .before .before .before .before .before in
-      let parts = c .before .before .before .before .before .before .before .before .before .plan .result in
-      let planned = c .before .before .before .before .before .before .before .before .before .plan .ensures in
-      let left = c .before .before .before .before .before .before .solve in
-      let right = c .before .before .solve2 in
-      halves-combinable (start .args .band) (start .args .height) (parts .half) (parts .own) (parts .middle) (parts .end) (start .args .setpoints .now) (start .args .scratch .now) (left .last .1 .1 .0) (right .last .1 .1 .0) planned (omega arith) (left .kept .1 .1 .0) (right .kept .1 .1 .0) (omega arith)
-      (halves (start .args .band) (start .args .height) (parts .half) (parts .own) (parts .middle) (parts .end) (start .args .setpoints .now) (start .args .scratch .now) (left .last .1 .1 .0) (right .last .1 .1 .0) planned (omega arith) (left .kept .1 .1 .0) (right .kept .1 .1 .0) (left .ensures) (right .ensures))
+      let start = c .before .before .before .before in
+      let parts = c .before .before .plan .result in
+      let solved = children-solved (c .before) in
+      halves-combinable (start .args .band) (start .args .height) (parts .half) (parts .own) (parts .middle) (parts .end) (start .args .setpoints .now) (c .before .if2 .scratch)
+      (c .before .before .plan .ensures) (solved .0) (omega arith) (omega arith)
+
+  shared-slice-copy-out-write-pair : lts.Need-shared-slice-copy-out-write-pair (calls t) (at-measure t) solve.Post
+  shared-slice-copy-out-write-pair c = omega (arith, pow-pos (c .before .before .args .height))
+
+  shared-slice-copy-out-write-pair-2 : lts.Need-shared-slice-copy-out-write-pair-2 (calls t) (at-measure t) solve.Post
+  shared-slice-copy-out-write-pair-2 c = let start = c .before .before .before in omega (arith, two-slots (start .args .height) (omega arith) (omega arith))
+
+  write-pair-requires : lts.Need-write-pair-requires (calls t) (at-measure t) solve.Post
+  write-pair-requires c κs =
+      let start = c .before .before .before .before .before in
+      rw (
+        element (getD (start .args .setpoints .now) 0 (pos 0)) (c .before .before .write-pair-arg .given),
+        element (getD (start .args .setpoints .now) 1 (pos 0)) (c .before .write-pair-arg2 .given),
+      )
+      (start .pre .1 .setpoints-within .each 0, start .pre .1 .setpoints-within .each 1, omega arith, omega (arith, pair-places (start .args .height) (omega arith) (omega arith)))
 
   shared-slice-copy-out-write-leaf : lts.Need-shared-slice-copy-out-write-leaf (calls t) (at-measure t) solve.Post
-  shared-slice-copy-out-write-leaf c = omega (arith, pow-pos (c .before .args .height))
+  shared-slice-copy-out-write-leaf c = omega (arith, pow-pos (c .before .before .args .height))
 
   write-leaf-requires : lts.Need-write-leaf-requires (calls t) (at-measure t) solve.Post
   write-leaf-requires c κs =
-      let start = c .before .before .before in
+      let start = c .before .before .before .before in
       rw (element (getD (start .args .setpoints .now) 0 (pos 0)) (c .before .write-leaf-arg .given))
       (start .pre .1 .setpoints-within .each 0, omega arith, omega (arith, own-first (start .args .height), pow-pos (start .args .height)))
 
   same-length : lts.Need-same-length (calls t) (at-measure t) solve.Post
-  same-length c =
-      let start = c .before .before .before .before .before .before .before .before .before .before .before .before .before in
-      let parts = c .before .before .before .before .before .before .before .before .before .before .before .plan .result in
-      let planned = c .before .before .before .before .before .before .before .before .before .before .before .plan .ensures in
-      let left = c .before .before .before .before .before .before .before .before .solve in
-      let right = c .before .before .before .before .solve2 in
-      c .before .combine .kept .0 ∙ both-length (start .args .band) (start .args .height) (parts .half) (parts .own) (parts .middle) (parts .end) (start .args .setpoints .now) (start .args .scratch .now) (left .last .1 .1 .0) (right .last .1 .1 .0) planned (omega arith) (left .kept .1 .1 .0) (right .kept .1 .1 .0)
+  same-length c = c .before .combine .kept .0 ∙ children-solved (c .before .before .before) .1
 
   returns : lts.Need-returns (calls t) (at-measure t) solve.Post
   returns c =
-      let start = c .before .before .before .before .before .before .before .before .before .before .before .before .before in
-      let parts = c .before .before .before .before .before .before .before .before .before .before .before .plan .result in
-      let planned = c .before .before .before .before .before .before .before .before .before .before .before .plan .ensures in
-      let left = c .before .before .before .before .before .before .before .before .solve in
-      let right = c .before .before .before .before .solve2 in
-      whole-solved (start .args .band) (start .args .height) (parts .half) (parts .own) (parts .middle) (parts .end) (start .args .setpoints .now) (start .args .scratch .now) (left .last .1 .1 .0) (right .last .1 .1 .0) planned (omega arith) (left .kept .1 .1 .0) (right .kept .1 .1 .0)
-      (halves (start .args .band) (start .args .height) (parts .half) (parts .own) (parts .middle) (parts .end) (start .args .setpoints .now) (start .args .scratch .now) (left .last .1 .1 .0) (right .last .1 .1 .0) planned (omega arith) (left .kept .1 .1 .0) (right .kept .1 .1 .0) (left .ensures) (right .ensures)) (c .before .combine .last .0) (c .before .combine .ensures)
+      let start = c .before .before .before .before .before .before in
+      let parts = c .before .before .before .before .plan .result in
+      whole-solved (start .args .band) (start .args .height) (parts .half) (parts .own) (parts .middle) (parts .end) (start .args .setpoints .now) (c .before .before .before .if2 .scratch)
+      (c .before .before .before .before .plan .ensures) (children-solved (c .before .before .before) .0) (c .before .combine .last .0) (c .before .combine .ensures)
 
   same-length-2 : lts.Need-same-length-2 (calls t) (at-measure t) solve.Post
   same-length-2 c = omega arith
 
   returns-2 : lts.Need-returns-2 (calls t) (at-measure t) solve.Post
   returns-2 c =
-      let start = c .before .before .before .before .before in
+      let start = c .before .before .before .before .before .before .before in
+      let pair =
+      rw (
+        element (getD (start .args .setpoints .now) 0 (pos 0)) (c .before .before .before .before .write-pair-arg .given),
+        element (getD (start .args .setpoints .now) 1 (pos 0)) (c .before .before .before .write-pair-arg2 .given),
+      ) at (c .before .write-pair .ensures) in
+      pair-whole (start .args .band) (start .args .height) (start .args .setpoints .now) (c .before .write-pair .last .1 .1 .1 .0) (omega arith) (omega arith) (omega arith) pair
+
+  same-length-3 : lts.Need-same-length-3 (calls t) (at-measure t) solve.Post
+  same-length-3 c = omega arith
+
+  returns-3 : lts.Need-returns-3 (calls t) (at-measure t) solve.Post
+  returns-3 c =
+      let start = c .before .before .before .before .before .before in
       let leaf = rw (element (getD (start .args .setpoints .now) 0 (pos 0)) (c .before .before .before .write-leaf-arg .given)) at (c .before .write-leaf .ensures) in
       leaf-whole (start .args .band) (start .args .height) (start .args .setpoints .now) (c .before .write-leaf .last .1 .1 .0) (omega arith) leaf
 
@@ -169,10 +224,16 @@ pub +solve-spec : {M : Type 1} → statement M
     (part-solve-end-3 t)
     (sub-solve-5 t)
     (solve-requires-2 t)
+    (write-pairs-requires t)
     (combine-requires t)
+    (shared-slice-copy-out-write-pair t)
+    (shared-slice-copy-out-write-pair-2 t)
+    (write-pair-requires t)
     (shared-slice-copy-out-write-leaf t)
     (write-leaf-requires t)
     (same-length t)
     (returns t)
     (same-length-2 t)
     (returns-2 t)
+    (same-length-3 t)
+    (returns-3 t)

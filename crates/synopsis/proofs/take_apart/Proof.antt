@@ -16,10 +16,10 @@ use Rattle.synopsis.proofs.Rows.{roomTy, NodesAre, ValuesAre, parts-rig
 use Rattle.synopsis.proofs.Storing.{stored, length-stored, parts-laid}
 use Rattle.synopsis.proofs.Parts as K
 use Rattle.synopsis.proofs.Parts.Laws as K′
-use Rattle.windows.proofs.smaller as count
-use Rattle.windows.proofs.smaller.Symbol as count-def
-use Rattle.windows.proofs.smaller.Symbol.{name as #windows·smaller}
-use Rattle.windows.proofs.smaller.Met as count-thm
+use Rattle.limits.proofs.smaller as count
+use Rattle.limits.proofs.smaller.Symbol as count-def
+use Rattle.limits.proofs.smaller.Symbol.{name as #limits·smaller}
+use Rattle.limits.proofs.smaller.Met as count-thm
 use Rattle.synopsis.proofs.empty_room as empty
 use Rattle.synopsis.proofs.empty_room.Symbol as empty-def
 use Rattle.synopsis.proofs.empty_room.Symbol.{name as #synopsis·empty-room}
@@ -64,7 +64,7 @@ module _ {M : Type 1} (𝓤 : URA M) (H : Heap 𝓤) (A : Atoms 𝓤) (mem : Mem
   Copy = Of 𝓤 H A out.ended (out.clauses 𝓤 H A mem run)
 
   record Known (C : Calls 𝓤 H) : Type 1 where
-    pub counts-terms : Triple 𝓤 (C #windows·smaller) Count
+    pub counts-terms : Triple 𝓤 (C #limits·smaller) Count
     pub makes-room : Triple 𝓤 (C #synopsis·empty-room) Empty
     pub copies-out : Triple 𝓤 (C #synopsis·term-out) Copy
 
@@ -265,7 +265,7 @@ take-apart-spec 𝓤 H 𝓜 𝓖 𝓡 =
     entered 𝓤 H (tripleOf 𝓤 H (𝓖 .A) f.signature (f.spec 𝓤 H (𝓖 .A) (𝓜 .mem) (𝓡 .run)))
     (tables 𝓤 H 𝓜 𝓡 code.env .C) (tables 𝓤 H 𝓜 𝓡 code.env .Λ) #synopsis·take-apart code.function (code.unfolded 𝓤 H 𝓜 𝓡)
     (meets 𝓤 H (𝓖 .A) (givenOf 𝓤 H 𝓜 𝓖) (𝓜 .mem) (𝓡 .run) (tablesOf 𝓤 H 𝓜 (tables 𝓤 H 𝓜 𝓡 code.env)) record {
-      counts-terms = cited 𝓤 H (Count 𝓤 H (𝓖 .A) (𝓜 .mem) (𝓡 .run)) 𝓜 𝓡 code.env #windows·smaller count-def.routine code.calls-windows·smaller (count-thm.met 𝓤 H 𝓜 𝓖 𝓡);
+      counts-terms = cited 𝓤 H (Count 𝓤 H (𝓖 .A) (𝓜 .mem) (𝓡 .run)) 𝓜 𝓡 code.env #limits·smaller count-def.routine code.calls-limits·smaller (count-thm.met 𝓤 H 𝓜 𝓖 𝓡);
       makes-room = cited 𝓤 H (Empty 𝓤 H (𝓖 .A) (𝓜 .mem) (𝓡 .run)) 𝓜 𝓡 code.env #synopsis·empty-room empty-def.routine code.calls-synopsis·empty-room (empty-thm.met 𝓤 H 𝓜 𝓖 𝓡);
       copies-out = cited 𝓤 H (Copy 𝓤 H (𝓖 .A) (𝓜 .mem) (𝓡 .run)) 𝓜 𝓡 code.env #synopsis·term-out out-def.routine code.calls-synopsis·term-out (out-thm.met 𝓤 H 𝓜 𝓖 𝓡);
     })

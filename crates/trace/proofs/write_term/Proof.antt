@@ -1,32 +1,26 @@
--- `trace::write_term` meets its contract: no term where the value is in the set, else one with the lowest value of the set.
-use mathlib.Core.Path.{sym, _∙_}
-use Prim.Native.Nat.{_≤_}
+-- `trace::write_term` meets its contract: no term where the value that comes in is handed on, else one with the value that is handed on.
+use Prim.Native.Nat.{_<_}
 use native.Mathlib.Omega.{arith}
 use lib.ListN.{length}
+use borrow.Author.Tests.{eq-eqb, ne-eqb}
 use borrow.Author.Needs.{needs}
-use Rattle.trace.proofs.Chosen.{lowest-on-top, first-number-within, lowered-fits, element-fits, element-is}
-use Rattle.trace.proofs.Traced.{none-traced, one-traced}
+use Rattle.trace.proofs.Chosen.{lowered-fits, element-fits, element-is}
+use Rattle.trace.proofs.Traced.{none-appended, one-appended}
 use Rattle.trace.proofs.write_term.Statement.{statement}
 use Rattle.trace.proofs.write_term.Tie as tie
 
-is-among-requires : tie.Need-is-among-requires
-is-among-requires c κs = search needs
-
 returns : tie.Need-returns
-returns c = rw (sym (c .before .is-among .ensures) ∙ c .if1 .taken) (none-traced _ _)
-
-load-requires : tie.Need-load-requires
-load-requires c κs = search needs
+returns c = rw (eq-eqb (c .before .args .next) (c .before .args .value) (c .if1 .taken)) (none-appended _ _ _)
 
 cast-nodes : tie.Need-cast-nodes
 cast-nodes c = search needs
 
--- the value is not in the set, so there is room for a term
-room : (c : tie.After-load) → 1 ≤ length (c .before .before .before .before .args .nodes .now)
-room c = rw (sym (c .before .before .is-among .ensures) ∙ c .before .if1 .left) at (c .before .before .before .before .pre .room)
+mul-nodes : tie.Need-mul-nodes
+mul-nodes c = search needs
 
-lowest-small : (c : tie.After-load) → c .load .result ≤ 40000
-lowest-small c = rw (c .load .ensures .0) (first-number-within (c .before .before .before .before .pre .answered))
+-- another value is handed on, so there is room for a term
+room : (c : tie.Else1) → c .before .args .count < length (c .before .args .nodes .now)
+room c = omega (arith, rw (ne-eqb (c .before .args .next) (c .before .args .value) (c .if1 .left)) at (c .before .pre .room))
 
 slice-write-nodes : tie.Need-slice-write-nodes
 slice-write-nodes c = room c
@@ -35,13 +29,19 @@ cast-values : tie.Need-cast-values
 cast-values c = search needs
 
 sub-values : tie.Need-sub-values
-sub-values c = lowered-fits (c .load .result) (lowest-small c)
+sub-values c = lowered-fits (c .before .args .next) (c .before .pre .next-within)
 
 cast-values-2 : tie.Need-cast-values-2
-cast-values-2 c = element-fits (c .load .result) (lowest-small c)
+cast-values-2 c = element-fits (c .before .args .next) (c .before .pre .next-within)
+
+mul-t9 : tie.Need-mul-t9
+mul-t9 c = search needs
 
 slice-set-from-values : tie.Need-slice-set-from-values
-slice-set-from-values c = omega (arith, room c, c .before .before .before .before .pre .same-room)
+slice-set-from-values c = omega (arith, room c, c .before .pre .same-room)
+
+add-result : tie.Need-add-result
+add-result c = search needs
 
 same-length : tie.Need-same-length
 same-length c = search needs
@@ -51,23 +51,24 @@ same-length-2 c = search needs
 
 returns-2 : tie.Need-returns-2
 returns-2 c =
-    let start = c .before .before .before .before in
-    rw (sym (c .before .before .is-among .ensures) ∙ c .before .if1 .left, lowest-on-top (start .pre .answered), element-is (c .load .result) (lowest-small c), c .load .ensures .0)
-    (one-traced _ (start .args .nodes .now) (start .args .values .now) (room c) (start .pre .same-room))
+    let args = c .before .args in
+    rw (ne-eqb (args .next) (args .value) (c .if1 .left), element-is (args .next) (c .before .pre .next-within))
+    (one-appended _ (args .nodes .now) (args .values .now) (args .count) (room c) (c .before .pre .same-room))
 
 pub write-term-spec : {M : Type 1} → statement M
 write-term-spec =
     tie.close
     (tie.spec
-    is-among-requires
     returns
-    load-requires
     cast-nodes
+    mul-nodes
     slice-write-nodes
     cast-values
     sub-values
     cast-values-2
+    mul-t9
     slice-set-from-values
+    add-result
     same-length
     same-length-2
     returns-2)

@@ -1,6 +1,10 @@
 -- `windows::is_right_next` meets its contract.
-use borrow.Author.Needs.{needs}
 use borrow.Author.Tests.{le-leb, lt-leb}
+use Prim.Native.Nat.{_+_, _*_}
+use lib.IntN.{pos}
+use lib.ListN.{getD}
+use Rattle.windows.proofs.Words.{read-back, same-order}
+use borrow.Author.Needs.{needs}
 use Rattle.windows.proofs.is_right_next.Statement.{statement}
 use Rattle.windows.proofs.is_right_next.Tie as tie
 
@@ -12,28 +16,37 @@ returns-2 c =
     let a = c .before .before .args in
     rw (lt-leb (a .rights) (a .j) (c .before .if1 .left), le-leb (a .lefts) (a .i) (c .if2 .taken))
 
-mul-load : tie.Need-mul-load
-mul-load c = search needs
+mul-result : tie.Need-mul-result
+mul-result c = search needs
 
-add-load : tie.Need-add-load
-add-load c = search needs
+add-result : tie.Need-add-result
+add-result c = search needs
 
-load-requires : tie.Need-load-requires
-load-requires c κs = search needs
+mul-result-2 : tie.Need-mul-result-2
+mul-result-2 c = search needs
 
-mul-load-2 : tie.Need-mul-load-2
-mul-load-2 c = search needs
+shared-slice-copy-out-result : tie.Need-shared-slice-copy-out-result
+shared-slice-copy-out-result c = search needs
 
-add-load-2 : tie.Need-add-load-2
-add-load-2 c = search needs
+mul-result-3 : tie.Need-mul-result-3
+mul-result-3 c = search needs
 
-load-requires-2 : tie.Need-load-requires-2
-load-requires-2 c κs = search needs
+add-result-2 : tie.Need-add-result-2
+add-result-2 c = search needs
+
+mul-result-4 : tie.Need-mul-result-4
+mul-result-4 c = search needs
+
+shared-slice-copy-out-result-2 : tie.Need-shared-slice-copy-out-result-2
+shared-slice-copy-out-result-2 c = search needs
 
 returns-3 : tie.Need-returns-3
 returns-3 c =
     let a = c .before .before .before .before .args in
-    rw (lt-leb (a .rights) (a .j) (c .before .before .before .if1 .left), lt-leb (a .lefts) (a .i) (c .before .before .if2 .left), c .before .load .ensures .0, c .load2 .ensures .0)
+    let next = getD (a .scratch .now) (a .right + 2 * a .j) (pos 0) in
+    let other = getD (a .scratch .now) (a .left + 2 * a .i) (pos 0) in
+    rw (lt-leb (a .rights) (a .j) (c .before .before .before .if1 .left), lt-leb (a .lefts) (a .i) (c .before .before .if2 .left), read-back next (c .before .result .given), read-back other (c .result2 .given))
+    (same-order next other (c .before .result .given) (c .result2 .given))
 
 pub is-right-next-spec : {M : Type 1} → statement M
 is-right-next-spec =
@@ -41,10 +54,12 @@ is-right-next-spec =
     (tie.spec
     returns
     returns-2
-    mul-load
-    add-load
-    load-requires
-    mul-load-2
-    add-load-2
-    load-requires-2
+    mul-result
+    add-result
+    mul-result-2
+    shared-slice-copy-out-result
+    mul-result-3
+    add-result-2
+    mul-result-4
+    shared-slice-copy-out-result-2
     returns-3)

@@ -1,9 +1,12 @@
--- `windows::write_between` meets its contract: both ends are stored, and counted where they do not cross.
-use borrow.Author.Needs.{needs}
+-- `windows::write_between` meets its contract: both ends are stored, and counted, where they do not cross.
 use borrow.Author.Tests.{le-leb, lt-leb}
 use Rattle.windows.proofs.Writing.{one-written, none-written}
+use borrow.Author.Needs.{needs}
 use Rattle.windows.proofs.write_between.Statement.{statement}
 use Rattle.windows.proofs.write_between.Tie as tie
+
+returns : tie.Need-returns
+returns c = let a = c .before .args in rw (lt-leb (a .low) (a .high) (c .if1 .taken)) (none-written (a .scratch .now) (a .count) _)
 
 mul-store : tie.Need-mul-store
 mul-store c = search needs
@@ -32,27 +35,18 @@ add-result c = search needs
 same-length : tie.Need-same-length
 same-length c = search needs
 
-returns : tie.Need-returns
-returns c =
-    let start = c .before .before .before .before .before .before .before in
-    let a = start .args in
-    rw (c .before .before .store2 .ensures, c .before .before .before .before .before .store .ensures, le-leb (a .low) (a .high) (c .if1 .taken))
-    (one-written (a .scratch .now) (a .count) (a .low) (a .high) (start .pre .0) (start .pre .1) (start .pre .2))
-
-same-length-2 : tie.Need-same-length-2
-same-length-2 c = search needs
-
 returns-2 : tie.Need-returns-2
 returns-2 c =
     let start = c .before .before .before .before .before .before .before in
     let a = start .args in
-    rw (c .before .before .store2 .ensures, c .before .before .before .before .before .store .ensures, lt-leb (a .low) (a .high) (c .if1 .left))
-    (none-written (a .scratch .now) (a .count) (a .low) (a .high) (start .pre .0) (start .pre .1) (start .pre .2))
+    rw (c .before .store2 .ensures, c .before .before .before .before .store .ensures, le-leb (a .low) (a .high) (c .before .before .before .before .before .before .if1 .left))
+    (one-written (a .scratch .now) (a .count) (a .low) (a .high) (start .pre .0) (start .pre .1) (start .pre .2))
 
 pub write-between-spec : {M : Type 1} → statement M
 write-between-spec =
     tie.close
     (tie.spec
+    returns
     mul-store
     add-store
     store-requires
@@ -62,6 +56,4 @@ write-between-spec =
     store-requires-2
     add-result
     same-length
-    returns
-    same-length-2
     returns-2)

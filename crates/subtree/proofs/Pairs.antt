@@ -1,0 +1,133 @@
+-- Two leaves and the node above them: its answer from their two windows, and the stretch that is then solved.
+use mathlib.Core.Path.{_≡_, refl, sym, ap, ap₂, _∙_}
+use mathlib.Core.Bool.{Bool, true, false, cond}
+use mathlib.Core.List.{List, [], _∷_}
+use Prim.Native.Nat.{ℕ, zero, suc, _+_, _-_, _^_, _≤_, _<_, min, max}
+use native.Mathlib.Omega.{arith}
+use lib.IntN.{ℤ, pos}
+use lib.ListN.{length, getD, take, drop}
+use borrow.Author.Tests.{le-leb, lt-leb, lt-ltb, le-ltb}
+use Rattle.windows.specs.Windows.{Window, meet, join}
+use Rattle.windows.specs.Scratch.{at}
+use Rattle.subtree.specs.Answer.{Answer, combined, answer}
+use Rattle.subtree.specs.Stretch.{places, answerAt, Solved, Halves, Planned}
+use Rattle.subtree.specs.Pair.{single, SlotEnds, SingleAt, DoubleWritten, LeavesCombined, PairSolved}
+use Rattle.subtree.proofs.Places.{planned}
+use Rattle.subtree.proofs.Leaves.{leaf-is}
+use Rattle.subtree.proofs.Solving.{count-of, answer-same, answer-shifted}
+
+neither : (test : Bool) → cond {A = List Window} test [] [] ≡ []
+neither true = refl
+neither false = refl
+
+-- the node's answer, where the leaves' windows meet and where they do not
+module _ (left-low left-high right-low right-high low high : ℕ) (low-is : low ≡ max left-low right-low) (high-is : high ≡ min left-high right-high) (before after : List ℤ) where
+  abbrev above : Answer
+  above = combined (single left-low left-high) (single right-low right-high)
+
+  both-met : low ≤ high → single low high ≡ above
+  unfolding meet
+  both-met met = rw (← low-is, ← high-is, le-leb low high met, neither)
+
+  pub leaves-meet : low ≤ high → SingleAt 0 low high before after → LeavesCombined left-low left-high right-low right-high before after
+  leaves-meet met written = record {
+    answer-is = written .answer-is ∙ both-met met;
+    behind-same = λ other behind. written .behind-same other (omega arith);
+  }
+
+  right-first : high < low → right-low < left-low
+      → record { number = 1; windows = record { low = right-low; high = right-high } ∷ record { low = left-low; high = left-high } ∷ [] } ≡ above
+  unfolding meet join
+  right-first apart lower = rw (← low-is, ← high-is, lt-leb low high apart, neither, lt-ltb right-low left-low lower)
+
+  pub right-lower : high < low → right-low < left-low → DoubleWritten right-low right-high left-low left-high before after
+      → LeavesCombined left-low left-high right-low right-high before after
+  right-lower apart lower written = record { answer-is = written .answer-is ∙ right-first apart lower; behind-same = written .behind-same }
+
+  left-first : high < low → left-low ≤ right-low
+      → record { number = 1; windows = record { low = left-low; high = left-high } ∷ record { low = right-low; high = right-high } ∷ [] } ≡ above
+  unfolding meet join
+  left-first apart lower = rw (← low-is, ← high-is, lt-leb low high apart, neither, le-ltb right-low left-low lower)
+
+  pub left-lower : high < low → left-low ≤ right-low → DoubleWritten left-low left-high right-low right-high before after
+      → LeavesCombined left-low left-high right-low right-high before after
+  left-lower apart lower written = record { answer-is = written .answer-is ∙ left-first apart lower; behind-same = written .behind-same }
+
+-- an answer of one window stays while the places that it stands at do
+still-single : (place low high : ℕ) (before written after : List ℤ) → SingleAt place low high before written
+    → ((other : ℕ) → place ≤ other → other < place + 4 → at after other ≡ at written other) → answerAt (at after) place ≡ single low high
+still-single place low high before written after of-window same =
+    let one : at written (place + 1) ≤ 1 = omega (arith, count-of (at written) place (single low high) (of-window .answer-is)) in
+    sym (answer-same (at written) (at after) place 1 one (λ other above below. sym (same other above (omega arith)))) ∙ of-window .answer-is
+
+pub pair-solved : (band : ℕ) (left right : ℤ) (left-low left-high right-low right-high : ℕ) (before first second after : List ℤ)
+    → SlotEnds band left left-low left-high → SlotEnds band right right-low right-high
+    → SingleAt 6 left-low left-high before first → SingleAt 10 right-low right-high first second → LeavesCombined left-low left-high right-low right-high second after
+    → PairSolved band left right after
+unfolding Solved answer places
+pair-solved band left right left-low left-high right-low right-high before first second after left-ends right-ends of-left of-right of-both =
+    let left-is = leaf-is band left left-low left-high left-ends in
+    let right-is = leaf-is band right right-low right-high right-ends in
+    record {
+      all-solved = (
+        of-both .answer-is ∙ ap₂ combined left-is right-is,
+        answer-shifted (at after) 6
+            ∙ still-single 6 left-low left-high before first after of-left (λ other above below. of-both .behind-same other above ∙ of-right .before-same other below) ∙ left-is,
+        answer-shifted (at after) 10
+            ∙ still-single 10 right-low right-high first second after of-right (λ other above below. of-both .behind-same other (omega arith)) ∙ right-is,
+      );
+    }
+
+-- a node of height 1 has two slots, and 14 places
+pub two-slots : (height : ℕ) → 0 < height → height ≤ 1 → 2 ^ height ≡ 2
+two-slots zero some few = absurd (omega arith)
+two-slots (suc zero) some few = refl
+two-slots (suc (suc height)) some few = absurd (omega arith)
+
+pub pair-places : (height : ℕ) → 0 < height → height ≤ 1 → places height ≡ 14
+unfolding places
+pair-places zero some few = absurd (omega arith)
+pair-places (suc zero) some few = refl
+pair-places (suc (suc height)) some few = absurd (omega arith)
+
+pub pair-whole : (band height : ℕ) (setpoints after : List ℤ) → 0 < height → height ≤ 1 → length setpoints ≡ 2 ^ height
+    → PairSolved band (getD setpoints 0 (pos 0)) (getD setpoints 1 (pos 0)) after → Solved band height setpoints (at after)
+pair-whole band zero setpoints after some few slots pair = absurd (omega arith)
+pair-whole band (suc zero) [] after some few slots pair = absurd (omega arith)
+pair-whole band (suc zero) (left ∷ []) after some few slots pair = absurd (omega arith)
+pair-whole band (suc zero) (left ∷ right ∷ []) after some few slots pair = pair .all-solved
+pair-whole band (suc zero) (left ∷ right ∷ more ∷ others) after some few slots pair = absurd (omega arith)
+pair-whole band (suc (suc height)) setpoints after some few slots pair = absurd (omega arith)
+
+-- ---- two pairs below a node of four slots
+
+pub four-places : places 2 ≡ 38
+unfolding places
+four-places = refl
+
+pub four-planned : Planned 2 2 10 24 38
+unfolding places
+four-planned = planned 2 2 14 (omega arith) (omega arith) refl refl
+
+-- each pair is solved in its part
+pub pairs-solved : (band : ℕ) (setpoints left right : List ℤ) → length setpoints ≡ 4
+    → PairSolved band (getD setpoints 0 (pos 0)) (getD setpoints 1 (pos 0)) left → PairSolved band (getD setpoints 2 (pos 0)) (getD setpoints 3 (pos 0)) right
+    → Solved band 1 (take 2 setpoints) (at left) × Solved band 1 (take (length setpoints - 2) (drop 2 setpoints)) (at right)
+pairs-solved band [] left right slots of-left of-right = absurd (omega arith)
+pairs-solved band (a ∷ []) left right slots of-left of-right = absurd (omega arith)
+pairs-solved band (a ∷ b ∷ []) left right slots of-left of-right = absurd (omega arith)
+pairs-solved band (a ∷ b ∷ c ∷ []) left right slots of-left of-right = absurd (omega arith)
+pairs-solved band (a ∷ b ∷ c ∷ d ∷ []) left right slots of-left of-right = (of-left .all-solved, of-right .all-solved)
+pairs-solved band (a ∷ b ∷ c ∷ d ∷ e ∷ others) left right slots of-left of-right = absurd (omega arith)
+
+-- and both are what a node of height 2 asks of its children
+pub pairs-below : (band height half own middle end : ℕ) (setpoints scratch : List ℤ) → 1 < height → height ≤ 2 → Planned height half own middle end
+    → Halves band 1 10 24 setpoints scratch → Halves band (height - 1) own middle setpoints scratch
+unfolding places
+pairs-below band zero half own middle end setpoints scratch some few of-node pairs = absurd (omega arith)
+pairs-below band (suc zero) half own middle end setpoints scratch some few of-node pairs = absurd (omega arith)
+pairs-below band (suc (suc zero)) half own middle end setpoints scratch some few of-node pairs =
+    let own-is : own ≡ 10 = of-node .own-is in
+    let middle-is : middle ≡ 24 = of-node .middle-is ∙ ap (λ (start : ℕ). start + 14) own-is in
+    rw (own-is, middle-is) pairs
+pairs-below band (suc (suc (suc height))) half own middle end setpoints scratch some few of-node pairs = absurd (omega arith)

@@ -1,0 +1,48 @@
+-- `subtree::write_pair` meets its contract.
+use mir.Facts.{toZ-ofZ}
+use Rattle.subtree.proofs.Pairs.{pair-solved}
+use borrow.Author.Needs.{needs}
+use Rattle.subtree.proofs.write_pair.Statement.{statement}
+use Rattle.subtree.proofs.write_pair.Tie as tie
+
+slot-ends-requires : tie.Need-slot-ends-requires
+slot-ends-requires c κs = search needs
+
+slot-ends-requires-2 : tie.Need-slot-ends-requires-2
+slot-ends-requires-2 c κs = search needs
+
+write-single-requires : tie.Need-write-single-requires
+write-single-requires c κs = search needs
+
+write-single-requires-2 : tie.Need-write-single-requires-2
+write-single-requires-2 c κs = search needs
+
+combine-leaves-requires : tie.Need-combine-leaves-requires
+combine-leaves-requires c κs = search needs
+
+same-length : tie.Need-same-length
+same-length c = search needs
+
+returns : tie.Need-returns
+returns c =
+    let start = c .before .before .before .before .before .before .before .before .before .before .before in
+    let a = start .args in
+    let left = c .before .before .before .before .before .before .before .before .before .before .slot-ends in
+    let right = c .before .before .before .before .before .before .before .before .before .slot-ends2 in
+    let first = c .before .before .before .before .before .before .before .write-single in
+    let second = c .before .before .before .before .write-single2 in
+    let both = c .before .combine-leaves in
+    pair-solved (a .band) (a .left) (a .right) (left .result .low) (left .result .high) (right .result .low) (right .result .high)
+    (a .scratch .now) (first .last .0) (second .last .0) (both .last .0) (rw (toZ-ofZ (start .fits .left)) at (left .ensures)) (rw (toZ-ofZ (start .fits .right)) at (right .ensures)) (first .ensures) (second .ensures) (both .ensures)
+
+pub write-pair-spec : {M : Type 1} → statement M
+write-pair-spec =
+    tie.close
+    (tie.spec
+    slot-ends-requires
+    slot-ends-requires-2
+    write-single-requires
+    write-single-requires-2
+    combine-leaves-requires
+    same-length
+    returns)

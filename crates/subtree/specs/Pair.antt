@@ -1,0 +1,41 @@
+-- What inner functions ask and promise of two leaves and the node above them, which is solved with no general merging. A reader of the promises need not open this file.
+-- The node's answer stands at places 0 to 5 of the stretch, the leaves' answers at 6 to 9 and at 10 to 13.
+use mathlib.Core.Path.{_≡_}
+use mathlib.Core.List.{List, [], _∷_}
+use Prim.Native.Nat.{ℕ, _+_, _-_, _≤_, _<_, min}
+use lib.IntN.{ℤ}
+use Rattle.claims.specs.Inner.{lifted}
+use Rattle.windows.specs.Scratch.{at}
+use Rattle.subtree.specs.Answer.{Answer, combined}
+use Rattle.subtree.specs.Stretch.{answerAt, Solved}
+
+-- the ends of a slot's window
+pub record SlotEnds (band : ℕ) (setpoint : ℤ) (low high : ℕ) : Type 0 where
+  pub low-is : low ≡ lifted setpoint - band
+  pub high-is : high ≡ min (lifted setpoint + band) 40000
+  pub low-small : low ≤ 40000
+
+-- the answer of no term and one window
+abbrev pub single : ℕ → ℕ → Answer
+single low high = record { number = 0; windows = record { low = low; high = high } ∷ [] }
+
+-- the answer of no term and one window, written at a place
+pub record SingleAt (place low high : ℕ) (before after : List ℤ) : Type 0 where
+  pub answer-is : answerAt (at after) place ≡ single low high
+  pub before-same : (other : ℕ) → other < place → at after other ≡ at before other
+  pub behind-same : (other : ℕ) → place + 4 ≤ other → at after other ≡ at before other
+
+-- the answer of one term and two windows, written in front
+pub record DoubleWritten (firstLow firstHigh secondLow secondHigh : ℕ) (before after : List ℤ) : Type 0 where
+  pub answer-is :
+      answerAt (at after) 0 ≡ record { number = 1; windows = record { low = firstLow; high = firstHigh } ∷ record { low = secondLow; high = secondHigh } ∷ [] }
+  pub behind-same : (other : ℕ) → 6 ≤ other → at after other ≡ at before other
+
+-- the answer of the node above two leaves, written in front
+pub record LeavesCombined (leftLow leftHigh rightLow rightHigh : ℕ) (before after : List ℤ) : Type 0 where
+  pub answer-is : answerAt (at after) 0 ≡ combined (single leftLow leftHigh) (single rightLow rightHigh)
+  pub behind-same : (other : ℕ) → 6 ≤ other → at after other ≡ at before other
+
+-- the answers of two leaves and of the node above them
+pub record PairSolved (band : ℕ) (left right : ℤ) (scratch : List ℤ) : Type 0 where
+  pub all-solved : Solved band 1 (left ∷ right ∷ []) (at scratch)

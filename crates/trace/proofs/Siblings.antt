@@ -1,0 +1,121 @@
+-- Two children of a node and a value in the node's set: where the children's sets meet the value is in both, else it is in one of the two.
+-- So the children's numbers and one test say what both hand on, and no node below one whose number is 0 has a term: `no-terms`.
+use mathlib.Core.Path.{_≡_, refl, sym, ap, subst, _∙_}
+use mathlib.Core.Bool.{Bool, true, false, not, _&&_, _||_, false≢true}
+use mathlib.Core.List.{List, [], _∷_}
+use Prim.Native.Nat.{ℕ, zero, suc, _+_, _*_, _^_, _≤_, _<_}
+use native.Mathlib.Omega.{arith}
+use lib.Dec.{T}
+use lib.IntN.{ℤ}
+use lib.ListN.{take, drop}
+use Rattle.windows.specs.Windows.{Window, covers, Sorted, meet}
+use Rattle.windows.specs.Scratch.{at}
+use Rattle.windows.proofs.Sets.{covers-meet, covers-join}
+use Rattle.subtree.specs.Answer.{Answer, combinedBy, combined, answer}
+use Rattle.subtree.specs.Stretch.{answerAt, Within}
+use Rattle.subtree.proofs.Answers.{apart, answer-sorted, within-take, within-drop}
+use Rattle.trace.specs.Trace.{levelTerms, setAt, Handing, HandedDown}
+use Rattle.trace.proofs.Chosen.{handed-on-inside, handed-on-outside, lowest-there}
+
+both-hold : (one other : Bool) → (one && other) ≡ true → (one ≡ true) × (other ≡ true)
+both-hold true true held = (refl, refl)
+both-hold true false held = absurd (false≢true held)
+both-hold false other held = absurd (false≢true held)
+
+-- of two tests exactly one holds where either does and not both
+other-fails : (one other : Bool) → (one || other) ≡ true → (T one → T other → ⊥) → other ≡ not one
+other-fails true true either not-both = absurd (not-both tt tt)
+other-fails true false either not-both = refl
+other-fails false true either not-both = refl
+other-fails false false either not-both = absurd (false≢true either)
+
+module _ (left right : Answer) (left-sorted : Sorted 0 (left .windows)) (right-sorted : Sorted 0 (right .windows)) (value : ℕ) where
+  -- the children's sets meet where the number of the node is the sum of theirs
+  pub in-both : combined left right .number ≤ left .number + right .number → covers (combined left right .windows) value ≡ true
+      → (covers (left .windows) value ≡ true) × (covers (right .windows) value ≡ true)
+  in-both = split (meet (left .windows) (right .windows)) refl
+    where
+      split : (both : List Window) → meet (left .windows) (right .windows) ≡ both → combinedBy both left right .number ≤ left .number + right .number
+          → covers (combinedBy both left right .windows) value ≡ true → (covers (left .windows) value ≡ true) × (covers (right .windows) value ≡ true)
+      split [] none met inside = absurd (omega arith)
+      split (window ∷ windows) is met inside =
+          both-hold (covers (left .windows) value) (covers (right .windows) value)
+          (sym (covers-meet (left .windows) (right .windows) 0 0 left-sorted right-sorted value) ∙ ap (λ (both : List Window). covers both value) is ∙ inside)
+
+  -- and do not meet where it is greater
+  pub in-one : left .number + right .number < combined left right .number → covers (combined left right .windows) value ≡ true
+      → covers (right .windows) value ≡ not (covers (left .windows) value)
+  in-one = split (meet (left .windows) (right .windows)) refl
+    where
+      split : (both : List Window) → meet (left .windows) (right .windows) ≡ both → left .number + right .number < combinedBy both left right .number
+          → covers (combinedBy both left right .windows) value ≡ true → covers (right .windows) value ≡ not (covers (left .windows) value)
+      split [] none greater inside =
+          other-fails (covers (left .windows) value) (covers (right .windows) value) (sym (covers-join (left .windows) (right .windows) value) ∙ inside)
+          (apart (left .windows) (right .windows) left-sorted right-sorted none value)
+      split (window ∷ windows) is greater inside = absurd (omega arith)
+
+  -- the number of a node is at least the sum of those of its children
+  pub sum-at-most : left .number + right .number ≤ combined left right .number
+  sum-at-most = split (meet (left .windows) (right .windows))
+    where
+      split : (both : List Window) → left .number + right .number ≤ combinedBy both left right .number
+      split [] = omega arith
+      split (window ∷ windows) = omega arith
+
+-- what two children hand on
+module _ {scratch : List ℤ} {left right value : ℕ} (pre : Handing scratch left right value) where
+  abbrev on-left : Answer
+  on-left = answerAt (at scratch) left
+
+  abbrev on-right : Answer
+  on-right = answerAt (at scratch) right
+
+  number-is : at scratch 0 ≡ combined on-left on-right .number
+  number-is = ap (λ (one : Answer). one .number) (pre .combines)
+
+  in-set : covers (combined on-left on-right .windows) value ≡ true
+  in-set = subst (λ (one : Answer). covers (one .windows) value ≡ true) (pre .combines) (pre .in-set)
+
+  pub handed-to-both : at scratch 0 ≤ at scratch left + at scratch right → HandedDown scratch left right value value value
+  handed-to-both met =
+      let both = in-both on-left on-right (pre .left-answered .sorted) (pre .right-answered .sorted) value (omega (arith, number-is)) in-set in
+      record { left-is = sym (handed-on-inside (setAt scratch left) value (both .0)); right-is = sym (handed-on-inside (setAt scratch right) value (both .1)) }
+
+  module _ (apart-sets : at scratch left + at scratch right < at scratch 0) where
+    other-is : covers (setAt scratch right) value ≡ not (covers (setAt scratch left) value)
+    other-is = in-one on-left on-right (pre .left-answered .sorted) (pre .right-answered .sorted) value (omega (arith, number-is)) in-set
+
+    pub handed-to-left : covers (setAt scratch left) value ≡ true → HandedDown scratch left right value value (at scratch (right + 2))
+    handed-to-left inside =
+        let outside : covers (setAt scratch right) value ≡ false = other-is ∙ ap not inside in
+        record {
+          left-is = sym (handed-on-inside (setAt scratch left) value inside);
+          right-is = sym (handed-on-outside (setAt scratch right) value outside ∙ lowest-there (pre .right-answered));
+        }
+
+    pub handed-to-right : covers (setAt scratch left) value ≡ false → HandedDown scratch left right value (at scratch (left + 2)) value
+    handed-to-right outside =
+        let inside : covers (setAt scratch right) value ≡ true = other-is ∙ ap not outside in
+        record {
+          left-is = sym (handed-on-outside (setAt scratch left) value outside ∙ lowest-there (pre .left-answered));
+          right-is = sym (handed-on-inside (setAt scratch right) value inside);
+        }
+
+-- where a subtree's number is 0 and the value that comes in is in the set of its top, no node of it has a term
+pub no-terms : (band depth height : ℕ) {setpoints : List ℤ} (node value : ℕ) → Within setpoints → answer band height setpoints .number ≡ 0
+    → covers (answer band height setpoints .windows) value ≡ true → levelTerms band depth height setpoints node value ≡ []
+unfolding levelTerms answer
+no-terms band zero height node value within none inside = rw inside
+no-terms band (suc depth) zero node value within none inside = refl
+no-terms band (suc depth) (suc height) {setpoints} node value within none inside =
+    let left : Answer = answer band height (take (2 ^ height) setpoints) in
+    let right : Answer = answer band height (drop (2 ^ height) setpoints) in
+    let left-sorted = answer-sorted (within-take within (2 ^ height)) band height in
+    let right-sorted = answer-sorted (within-drop within (2 ^ height)) band height in
+    let sum = sum-at-most left right left-sorted right-sorted value in
+    let both = in-both left right left-sorted right-sorted value (omega arith) inside in
+    rw (
+      handed-on-inside (combined left right .windows) value inside,
+      no-terms band depth height (2 * node) value (within-take within (2 ^ height)) (omega arith) (both .0),
+      no-terms band depth height (2 * node + 1) value (within-drop within (2 ^ height)) (omega arith) (both .1),
+    )

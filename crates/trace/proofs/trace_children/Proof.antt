@@ -1,0 +1,59 @@
+-- `trace::trace_children` meets its contract.
+use mathlib.Core.Path.{refl}
+use borrow.Author.Needs.{needs}
+use Rattle.trace.proofs.Levels.{Descent, left-term-fits, right-term-fits, children-traced}
+use Rattle.trace.proofs.Stretches.{handing}
+use Rattle.trace.proofs.trace_children.Statement.{statement}
+use Rattle.trace.proofs.trace_children.Tie as tie
+
+plan-requires : tie.Need-plan-requires
+plan-requires c κs = search needs
+
+hand-down-requires : tie.Need-hand-down-requires
+hand-down-requires c κs = let fits = c .before .before .pre in handing (c .plan .ensures) (fits .stretch) (fits .in-set)
+
+-- what holds once the values that the children hand on are known
+descent : (c : tie.After-hand-down) → let args = c .before .before .before .args in
+    let parts = c .before .plan .result in
+    Descent (args .scratch .now) (args .height) 1 0 (args .node) (args .value) (args .nodes .now) (args .values .now) (args .count) (parts .half) (parts .own) (parts .middle) (parts .end)
+    (c .hand-down .result .left) (c .hand-down .result .right)
+descent c = record { fits = c .before .before .before .pre; deeper = refl; planned = c .before .plan .ensures; handed = c .hand-down .ensures }
+
+mul-write-term : tie.Need-mul-write-term
+mul-write-term c = search needs
+
+write-term-requires : tie.Need-write-term-requires
+write-term-requires c κs = left-term-fits (descent (c .before .before))
+
+mul-write-term-2 : tie.Need-mul-write-term-2
+mul-write-term-2 c = search needs
+
+add-write-term : tie.Need-add-write-term
+add-write-term c = search needs
+
+write-term-requires-2 : tie.Need-write-term-requires-2
+write-term-requires-2 c κs = let left = c .before .before .before .before .before in right-term-fits (descent (left .before .before .before)) (left .write-term .ensures)
+
+same-length : tie.Need-same-length
+same-length c = search needs
+
+same-length-2 : tie.Need-same-length-2
+same-length-2 c = search needs
+
+returns : tie.Need-returns
+returns c = let left = c .before .before .before .before .before .before .before .before .before in children-traced (descent (left .before .before .before)) (left .write-term .ensures) (c .before .before .before .write-term2 .ensures)
+
+pub trace-children-spec : {M : Type 1} → statement M
+trace-children-spec =
+    tie.close
+    (tie.spec
+    plan-requires
+    hand-down-requires
+    mul-write-term
+    write-term-requires
+    mul-write-term-2
+    add-write-term
+    write-term-requires-2
+    same-length
+    same-length-2
+    returns)
