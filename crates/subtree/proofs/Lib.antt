@@ -1,7 +1,7 @@
 pub mod Places
 pub mod Lent
 pub mod Combining
-pub mod Leaves
+pub mod LeafAnswers
 pub mod Lifting
 pub mod Answers
 pub mod Rows

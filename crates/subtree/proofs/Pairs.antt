@@ -13,7 +13,7 @@ use Rattle.subtree.specs.Answer.{Answer, combined, answer}
 use Rattle.subtree.specs.Stretch.{places, answerAt, Solved, Halves, Planned}
 use Rattle.subtree.specs.Pair.{single, SlotEnds, SingleAt, DoubleWritten, LeavesCombined, PairSolved}
 use Rattle.subtree.proofs.Places.{planned}
-use Rattle.subtree.proofs.Leaves.{leaf-is}
+use Rattle.subtree.proofs.LeafAnswers.{leaf-is}
 use Rattle.subtree.proofs.Solving.{count-of, answer-same, answer-shifted}
 
 neither : (test : Bool) → cond {A = List Window} test [] [] ≡ []

@@ -21,9 +21,9 @@ use Rattle.subtree.proofs.solve.Kinds as solve-kinds
 use Rattle.subtree.proofs.+solve.Lts-solve as lts
 use Rattle.subtree.proofs.combine.Reads as combine-reads
 use Rattle.subtree.proofs.plan.Reads as plan-reads
-use Rattle.subtree.proofs.write_leaf.Reads as write-leaf-reads
-use Rattle.subtree.proofs.write_pair.Reads as write-pair-reads
-use Rattle.subtree.proofs.write_pairs.Reads as write-pairs-reads
+use Rattle.subtree.proofs.leaves.write_leaf.Reads as write-leaf-reads
+use Rattle.subtree.proofs.leaves.write_pair.Reads as write-pair-reads
+use Rattle.subtree.proofs.leaves.write_pairs.Reads as write-pairs-reads
 use Rattle.subtree.proofs.+solve.{statement}
 use Rattle.subtree.proofs.+solve.Tie.{close}
 

@@ -1,6 +1,6 @@
 -- `subtree::write_header` meets its contract.
 use borrow.Author.Needs.{needs}
-use Rattle.subtree.proofs.Leaves.{headed}
+use Rattle.subtree.proofs.LeafAnswers.{headed}
 use Rattle.subtree.proofs.write_header.Statement.{statement}
 use Rattle.subtree.proofs.write_header.Tie as tie
 

@@ -1,9 +1,9 @@
--- `subtree::combine_leaves` meets its contract.
+-- `subtree::leaves::combine_leaves` meets its contract.
 use native.Mathlib.Omega.{arith}
 use Rattle.subtree.proofs.Pairs.{leaves-meet, right-lower, left-lower}
 use borrow.Author.Needs.{needs}
-use Rattle.subtree.proofs.combine_leaves.Statement.{statement}
-use Rattle.subtree.proofs.combine_leaves.Tie as tie
+use Rattle.subtree.proofs.leaves.combine_leaves.Statement.{statement}
+use Rattle.subtree.proofs.leaves.combine_leaves.Tie as tie
 
 larger-requires : tie.Need-larger-requires
 larger-requires c κs = search needs

@@ -1,9 +1,9 @@
--- `subtree::write_pair` meets its contract.
+-- `subtree::leaves::write_pair` meets its contract.
 use mir.Facts.{toZ-ofZ}
 use Rattle.subtree.proofs.Pairs.{pair-solved}
 use borrow.Author.Needs.{needs}
-use Rattle.subtree.proofs.write_pair.Statement.{statement}
-use Rattle.subtree.proofs.write_pair.Tie as tie
+use Rattle.subtree.proofs.leaves.write_pair.Statement.{statement}
+use Rattle.subtree.proofs.leaves.write_pair.Tie as tie
 
 slot-ends-requires : tie.Need-slot-ends-requires
 slot-ends-requires c κs = search needs

@@ -1,9 +1,9 @@
--- `subtree::write_leaf` meets its contract.
+-- `subtree::leaves::write_leaf` meets its contract.
 use mir.Facts.{toZ-ofZ}
-use Rattle.subtree.proofs.Leaves.{leaf-solved}
+use Rattle.subtree.proofs.LeafAnswers.{leaf-solved}
 use borrow.Author.Needs.{needs}
-use Rattle.subtree.proofs.write_leaf.Statement.{statement}
-use Rattle.subtree.proofs.write_leaf.Tie as tie
+use Rattle.subtree.proofs.leaves.write_leaf.Statement.{statement}
+use Rattle.subtree.proofs.leaves.write_leaf.Tie as tie
 
 slot-ends-requires : tie.Need-slot-ends-requires
 slot-ends-requires c κs = search needs

@@ -1,8 +1,8 @@
--- `subtree::write_single` meets its contract.
-use Rattle.subtree.proofs.Leaves.{single-at}
+-- `subtree::leaves::write_single` meets its contract.
+use Rattle.subtree.proofs.LeafAnswers.{single-at}
 use borrow.Author.Needs.{needs}
-use Rattle.subtree.proofs.write_single.Statement.{statement}
-use Rattle.subtree.proofs.write_single.Tie as tie
+use Rattle.subtree.proofs.leaves.write_single.Statement.{statement}
+use Rattle.subtree.proofs.leaves.write_single.Tie as tie
 
 store-requires : tie.Need-store-requires
 store-requires c κs = search needs

@@ -1,4 +1,4 @@
--- `subtree::write_pairs` meets its contract.
+-- `subtree::leaves::write_pairs` meets its contract.
 use native.Mathlib.Omega.{arith}
 use lib.IntN.{pos}
 use lib.ListN.{getD}
@@ -7,8 +7,8 @@ use Rattle.limits.proofs.Signed.{element}
 use Rattle.subtree.proofs.Solving.{halves}
 use Rattle.subtree.proofs.Pairs.{four-places, four-planned, pairs-solved}
 use borrow.Author.Needs.{needs}
-use Rattle.subtree.proofs.write_pairs.Statement.{statement}
-use Rattle.subtree.proofs.write_pairs.Tie as tie
+use Rattle.subtree.proofs.leaves.write_pairs.Statement.{statement}
+use Rattle.subtree.proofs.leaves.write_pairs.Tie as tie
 
 shared-slice-copy-out-write-pair : tie.Need-shared-slice-copy-out-write-pair
 shared-slice-copy-out-write-pair c = search needs

@@ -1,11 +1,11 @@
--- `subtree::slot_ends` meets its contract.
+-- `subtree::leaves::slot_ends` meets its contract.
 use mir.Facts.{toZ-ofZ, sfits-widen}
 use mir.Syntax.{w16, w32}
 use Rattle.limits.proofs.Signed.{widened-to}
-use Rattle.subtree.proofs.Leaves.{slot-ends}
+use Rattle.subtree.proofs.LeafAnswers.{slot-ends}
 use borrow.Author.Needs.{needs}
-use Rattle.subtree.proofs.slot_ends.Statement.{statement}
-use Rattle.subtree.proofs.slot_ends.Tie as tie
+use Rattle.subtree.proofs.leaves.slot_ends.Statement.{statement}
+use Rattle.subtree.proofs.leaves.slot_ends.Tie as tie
 
 cast-lift : tie.Need-cast-lift
 cast-lift c = rw (toZ-ofZ (c .fits .setpoint)) (sfits-widen tt (c .fits .setpoint))

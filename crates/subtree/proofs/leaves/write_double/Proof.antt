@@ -1,9 +1,9 @@
--- `subtree::write_double` meets its contract.
+-- `subtree::leaves::write_double` meets its contract.
 use native.Mathlib.Omega.{arith}
-use Rattle.subtree.proofs.Leaves.{double-written}
+use Rattle.subtree.proofs.LeafAnswers.{double-written}
 use borrow.Author.Needs.{needs}
-use Rattle.subtree.proofs.write_double.Statement.{statement}
-use Rattle.subtree.proofs.write_double.Tie as tie
+use Rattle.subtree.proofs.leaves.write_double.Statement.{statement}
+use Rattle.subtree.proofs.leaves.write_double.Tie as tie
 
 write-header-requires : tie.Need-write-header-requires
 write-header-requires c κs = search needs
