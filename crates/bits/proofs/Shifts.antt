@@ -7,10 +7,8 @@ use lib.Arith.{digits-lt}
 use lib.Pow.{pow-pos, pow-mono, pow-lt, pow-add, shr-lt}
 use mir.Syntax.{w16, w32}
 use mir.Val.{Fits}
+use Rattle.limits.proofs.Shifting.{one-shifted}
 use Rattle.bits.specs.Inner.{FieldInWord, withField}
-
-pub one-shifted : (n : ℕ) → n < 32 → 1 * 2 ^ n % 2 ^ 32 ≡ 2 ^ n
-one-shifted n small = let below : 2 ^ n < 2 ^ 32 = pow-lt small in ap (λ (m : ℕ). m % 2 ^ 32) (one-mul (2 ^ n)) ∙ mod-eq-of-lt below
 
 -- a remainder of at most 16 bits
 pub remainder-fits : (number width : ℕ) → width ≤ 16 → Fits w16 (number % 2 ^ width)
@@ -48,7 +46,7 @@ module _ (word width after number : ℕ) (asked : FieldInWord word width after n
       (with-field-below before width after word number (subst (λ (n : ℕ). word < 2 ^ n) (sym whole) (asked .word-fits)) (asked .number-fits))
 
   pub after-shifted : 1 * 2 ^ after % 2 ^ 32 ≡ 2 ^ after
-  after-shifted = one-shifted after (omega (arith, asked .field-fits))
+  after-shifted = one-shifted 32 after (omega (arith, asked .field-fits))
 
   -- the sum of the shifts is the number with the field replaced
   pub with-field-shifted : (word / 2 ^ after / 2 ^ width * 2 ^ width % 2 ^ 32 + number) * 2 ^ after % 2 ^ 32 + word % (1 * 2 ^ after % 2 ^ 32) ≡ withField word width after number

@@ -10,14 +10,11 @@ use borrow.Author.Tests.{lt-ltb, le-ltb}
 use mir.Syntax.{w16, w32}
 use mir.Val.{Fits, SFits, toZ, ofZ}
 use mir.Facts.{toZ-ofZ, toZ-pos, sfits-widen}
+use Rattle.limits.proofs.Shifting.{one-shifted}
+use Rattle.limits.proofs.Signed.{widened-to}
 use Rattle.bits.specs.Signed.{complement, signedOf}
 use Rattle.bits.specs.Inner.{SignedBits}
 use Rattle.bits.proofs.Complement.{complement-fits, signed-from-zero, signed-below-zero}
-use Rattle.bits.proofs.Shifts.{one-shifted}
-
--- a number of 16 bits, read back after it was widened to 32
-pub widened : {number : ℤ} → SFits w16 number → toZ w32 (ofZ w32 (toZ w16 (ofZ w16 number))) ≡ number
-widened fits = rw (toZ-ofZ fits, toZ-ofZ (sfits-widen tt fits))
 
 abbrev pub raised : ℕ → ℤ → ℕ
 raised limit (pos number) = limit + number
@@ -33,7 +30,7 @@ raised-remainder width (pos number) small =
 raised-remainder width (negsuc below) small = mod-eq-of-lt (complement-fits width (negsuc below) small)
 
 pub limit-shifted : (width : ℕ) → width ≤ 16 → 1 * 2 ^ width % 2 ^ 32 ≡ 2 ^ width
-limit-shifted width narrow = one-shifted width (omega arith)
+limit-shifted width narrow = one-shifted 32 width (omega arith)
 
 pub limit-small : (width : ℕ) → width ≤ 16 → 2 ^ width ≤ 65536
 limit-small width narrow = let power : 2 ^ width ≤ 2 ^ 16 = pow-mono narrow in power
@@ -49,7 +46,7 @@ module _ (width : ℕ) (number : ℤ) (asked : (width ≤ 16) × SignedBits widt
   sum-is : toZ w32 (1 * 2 ^ width % 2 ^ 32) +ℤ toZ w32 (ofZ w32 (toZ w16 (ofZ w16 number))) ≡ pos (raised (2 ^ width) number)
   sum-is =
       let below : 2 ^ width < 2 ^ 31 = omega (arith, limit-small width (asked .0)) in
-      ap₂ (λ (x y : ℤ). x +ℤ y) (ap (toZ w32) (limit-shifted width (asked .0)) ∙ toZ-pos w32 below) (widened fits)
+      ap₂ (λ (x y : ℤ). x +ℤ y) (ap (toZ w32) (limit-shifted width (asked .0)) ∙ toZ-pos w32 below) (widened-to w16 w32 tt fits)
       ∙ sum-raised width number (asked .1)
 
   raised-fits : SFits w32 (pos (raised (2 ^ width) number))

@@ -2,4 +2,5 @@ pub mod Beyond
 pub mod Laying
 pub mod Parts
 pub mod Refusals
+pub mod Shifting
 pub mod Signed

@@ -41,10 +41,6 @@ places-within height in-tree =
     let all : 9 - height + height ≡ 9 = omega arith in
     subst (λ (other : ℕ). places height ≤ places other) all (higher height (9 - height))
 
--- the power that a shift gives
-pub one-shifted : (count : ℕ) → count < 64 → 1 * 2 ^ count % 2 ^ 64 ≡ 2 ^ count
-one-shifted count small = let below : 2 ^ count < 2 ^ 64 = pow-lt small in ap (λ (number : ℕ). number % 2 ^ 64) (one-mul (2 ^ count)) ∙ mod-eq-of-lt below
-
 -- the parts of a node's setpoints and stretch
 pub planned : (height half child : ℕ) → 0 < height → height ≤ 9 → half ≡ 2 ^ (height - 1) → child ≡ places (height - 1)
     → Planned height half (4 * half + 2) (4 * half + 2 + child) (4 * half + 2 + child + child)

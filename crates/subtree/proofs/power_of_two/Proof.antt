@@ -3,7 +3,7 @@ use borrow.Author.Needs.{needs}
 use Prim.Native.Nat.{_≤_, _^_}
 use native.Mathlib.Omega.{arith}
 use lib.Pow.{pow-mono}
-use Rattle.subtree.proofs.Places.{one-shifted}
+use Rattle.limits.proofs.Shifting.{one-shifted}
 use Rattle.subtree.proofs.power_of_two.Statement.{statement}
 use Rattle.subtree.proofs.power_of_two.Tie as tie
 
@@ -13,7 +13,7 @@ shl-result c = search needs
 returns : tie.Need-returns
 returns c =
     let small : 2 ^ c .args .exponent ≤ 2 ^ 9 = pow-mono (c .pre) in
-    let is = one-shifted (c .args .exponent) (omega arith) in
+    let is = one-shifted 64 (c .args .exponent) (omega arith) in
     (is, omega arith)
 
 pub power-of-two-spec : {M : Type 1} → statement M

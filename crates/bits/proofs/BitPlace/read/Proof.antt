@@ -2,7 +2,8 @@
 use native.Mathlib.Omega.{arith}
 use lib.Pow.{pow-pos}
 use Rattle.bits.proofs.Numbers.{bytes-below}
-use Rattle.bits.proofs.Shifts.{one-shifted, remainder-fits}
+use Rattle.limits.proofs.Shifting.{one-shifted}
+use Rattle.bits.proofs.Shifts.{remainder-fits}
 use Rattle.bits.proofs.Words.{read-by-word}
 use borrow.Author.Needs.{needs}
 use Rattle.bits.proofs.BitPlace.read.Statement.{statement}
@@ -30,16 +31,16 @@ shl-result : tie.Need-shl-result
 shl-result c = search needs
 
 rem-result : tie.Need-rem-result
-rem-result c = let width = c .before .before .args .width in rw (one-shifted width (omega arith)) (pow-pos width)
+rem-result c = let width = c .before .before .args .width in rw (one-shifted 32 width (omega arith)) (pow-pos width)
 
 cast-result-3 : tie.Need-cast-result-3
-cast-result-3 c = rw (one-shifted (c .before .before .args .width) (omega arith)) (remainder-fits _ (c .before .before .args .width) (c .before .before .pre .narrow))
+cast-result-3 c = rw (one-shifted 32 (c .before .before .args .width) (omega arith)) (remainder-fits _ (c .before .before .args .width) (c .before .before .pre .narrow))
 
 returns : tie.Need-returns
 returns c =
     let start = c .before .before in
     let bytes = start .args .bytes .now in
-    rw (one-shifted (start .args .width) (omega arith), c .word-at .ensures)
+    rw (one-shifted 32 (start .args .width) (omega arith), c .word-at .ensures)
     (read-by-word bytes (start .args .self .at) (start .args .width) (bytes-below bytes (c .before .shared-slice-known .given)) (start .pre .narrow) (start .pre .inside))
 
 pub read-spec : {M : Type 1} → statement M
