@@ -1,10 +1,10 @@
 -- Shifts as the code has them, `a * 2 ^ n % 2 ^ 32`, where nothing is shifted out: the number with a field replaced has no more bits than it had.
 use mathlib.Core.Path.{_≡_, sym, ap, _∙_, subst}
 use Prim.Native.Nat.{ℕ, _+_, _-_, _*_, _/_, _%_, _^_, _<_, _≤_}
-use native.Mathlib.Nat.{one-mul, mod-lt, mod-eq-of-lt, div-le-self, div-mul-le-self}
+use native.Mathlib.Nat.{mod-lt, mod-eq-of-lt, div-le-self, div-mul-le-self}
 use native.Mathlib.Omega.{arith}
 use lib.Arith.{digits-lt}
-use lib.Pow.{pow-pos, pow-mono, pow-lt, pow-add, shr-lt}
+use lib.Pow.{pow-pos, pow-mono, pow-add, shr-lt}
 use mir.Syntax.{w16, w32}
 use mir.Val.{Fits}
 use Rattle.limits.proofs.Shifting.{one-shifted}

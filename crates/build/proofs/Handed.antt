@@ -7,7 +7,7 @@ use lib.IntN.{ℤ}
 use lib.ListN.{length, take, drop, length-map}
 use Rattle.limits.proofs.Laying.{front-of, past-front}
 use Rattle.histogram.specs.declared.Term.{Term}
-use Rattle.histogram.specs.Tree.{height, padded}
+use Rattle.histogram.specs.Tree.{height}
 use Rattle.histogram.specs.Terms.{paired, nodesOf, valuesOf}
 use Rattle.histogram.specs.Errors.{greatestError}
 use Rattle.histogram.proofs.Paired.{paired-again}

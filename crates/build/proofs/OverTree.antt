@@ -1,11 +1,10 @@
 -- Building over a tree: the count for the band gives the budget of the search, and the band found the terms to trace.
-use mathlib.Core.Path.{_≡_, subst, _∙_}
+use mathlib.Core.Path.{_≡_, subst}
 use mathlib.Core.List.{List}
-use Prim.Native.Nat.{ℕ, _≤_}
+use Prim.Native.Nat.{ℕ}
 use native.Mathlib.Omega.{arith}
 use lib.IntN.{ℤ}
 use lib.ListN.{length}
-use Rattle.subtree.specs.Answer.{answer, needed}
 use Rattle.subtree.specs.Stretch.{Solvable, Counted}
 use Rattle.trace.specs.Trace.{LevelsFit, LevelsTraced}
 use Rattle.build.specs.Inner.{Searchable, LeastWithin, TreeFits, TreeBuilt}

@@ -1,15 +1,15 @@
 -- The tree over a profile: its height is the level of its first leaf, its leaves carry the setpoints of the slots.
-use mathlib.Core.Path.{_≡_, refl, sym, ap, subst, _∙_}
+use mathlib.Core.Path.{_≡_, sym, ap, subst, _∙_}
 use mathlib.Core.Bool.{Bool, true, false}
 use mathlib.Core.List.{List}
 use mathlib.Core.Logic.{⊎-elim}
-use Prim.Native.Nat.{ℕ, zero, suc, _+_, _*_, _-_, _^_, _≤_, _<_}
+use Prim.Native.Nat.{ℕ, _+_, _*_, _-_, _^_, _≤_, _<_}
 use native.Mathlib.Omega.{arith}
 use lib.IntN.{ℤ, pos, natAbs}
 use lib.ListN.{length, getD, take, List·getD-eq-default}
 use lib.Pow.{pow-pos}
 use lib.Seq.{length-take-le, getD-take}
-use Rattle.histogram.specs.Tree.{height, padded, IsLevel, levelOf, levelAnswer}
+use Rattle.histogram.specs.Tree.{height, padded, levelAnswer}
 use Rattle.histogram.specs.Errors.{setpointOf}
 use Rattle.histogram.proofs.Order.{below-or-not}
 use Rattle.histogram.proofs.Powers.{level-rule, level-only, level-in-table, height-bound, padded-bound}

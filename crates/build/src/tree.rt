@@ -1,7 +1,6 @@
 // The search for the least band of a tree whose slots all have setpoints, and building there.
 use subtree::count_terms;
 use trace::trace;
-ghost use mathlib.Core.Path.{_≡_};
 ghost use Rattle.build.specs.Inner.{Searchable, LeastWithin, TreeFits, TreeBuilt};
 
 // The least band up to `top` for which the tree needs no more terms than the budget, by halving.

@@ -1,14 +1,10 @@
 -- The terms gathered from a function on nodes: the list is valid and looks up as the function.
-use mathlib.Core.Path.{_≡_, refl, ap, sym, _∙_}
-use mathlib.Core.Bool.{Bool, true, false, cond}
+use mathlib.Core.Path.{_≡_, refl, ap}
 use mathlib.Core.Option.{Option, none, some}
-use mathlib.Core.List.{List, [], _∷_}
 use Prim.Native.Nat.{ℕ, zero, suc, _+_, _≤_, _<_}
 use native.Mathlib.Decide.{ℕ-discrete}
 use native.Mathlib.Omega.{arith}
-use lib.Dec.{T, eqb, lt→ltb}
 use borrow.Author.Tests.{eq-eqb, ne-eqb}
-use Rattle.histogram.specs.declared.Term.{Term}
 use Rattle.histogram.specs.Terms.{validFrom}
 use Rattle.histogram.proofs.Ascent.{ValidFrom, valid-before}
 use Rattle.fewest.specs.Node.{Within}

@@ -2,11 +2,11 @@
 -- A best synopsis keeps the band with just so many, and a band just below its greatest error needs more: `best-synopsis`.
 -- The least band needs no more than the budget, and a band just below it does: `least-band`.
 use mathlib.Core.Path.{_≡_}
-use mathlib.Core.Logic.{inl, inr, ⊎-elim}
+use mathlib.Core.Logic.{⊎-elim}
 use mathlib.Core.List.{List}
 use Prim.Native.Nat.{ℕ, _-_, _≤_, _<_}
 use native.Mathlib.Omega.{arith}
-use lib.Dec.{T, leb→le, le→leb}
+use lib.Dec.{leb→le, le→leb}
 use lib.IntN.{ℤ}
 use lib.ListN.{length}
 use Rattle.histogram.specs.declared.Term.{Term}

@@ -1,18 +1,18 @@
 -- A synopsis of a profile and the theory of fewest terms: the same lists are meant, the same setpoints restored, the same bands kept.
-use mathlib.Core.Path.{_≡_, refl, sym, ap, _∙_, subst}
+use mathlib.Core.Path.{_≡_, refl, ap, _∙_}
 use mathlib.Core.Bool.{Bool, true, false, cond}
 use mathlib.Core.List.{List, [], _∷_}
 use mathlib.Core.Option.{some}
 use Prim.Native.Nat.{ℕ, zero, suc, _+_, _-_, _*_, _/_, _^_, _≤_, _<_}
 use native.Mathlib.Omega.{arith}
-use lib.Dec.{T, leb, eqb, leb→le, le→leb}
+use lib.Dec.{T, eqb, leb→le, le→leb}
 use lib.IntN.{ℤ, natAbs}
 use lib.Pow.{pow-pos}
 use lib.ListN.{length}
 use Rattle.histogram.specs.declared.Term.{Term}
-use Rattle.histogram.specs.Tree.{height, padded, IsLevel, levelOf}
+use Rattle.histogram.specs.Tree.{height, padded}
 use Rattle.histogram.specs.Terms.{Valid, termOr}
-use Rattle.histogram.specs.Restored.{restored, restoredSlot, pathNodes}
+use Rattle.histogram.specs.Restored.{restored, pathNodes}
 use Rattle.histogram.specs.Errors.{setpointOf, slotError, Keeps}
 use Rattle.histogram.proofs.Ascent.{ValidFrom, first-above, first-below, first-within, rest-valid}
 use Rattle.histogram.proofs.Above.{path-of-node}

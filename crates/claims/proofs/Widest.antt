@@ -1,7 +1,7 @@
 -- Every profile keeps the band 40,000 with no term.
 use mathlib.Core.Path.{subst, sym}
 use mathlib.Core.List.{List, []}
-use Prim.Native.Nat.{ℕ, _≤_}
+use Prim.Native.Nat.{_≤_}
 use native.Mathlib.Omega.{arith}
 use lib.IntN.{ℤ, natAbs, _-ℤ_}
 use lib.ListN.{length}

@@ -1,15 +1,15 @@
 -- What is written reads as the value it came from: one case for each number of digits before the comma.
-use mathlib.Core.Path.{_≡_, refl, sym, ap, _∙_}
-use mathlib.Core.Bool.{Bool, true, false, cond}
-use mathlib.Core.List.{List, [], _∷_, _++_}
-use mathlib.Core.Option.{Option, none, some}
+use mathlib.Core.Path.{_≡_, refl, ap, _∙_}
+use mathlib.Core.Bool.{Bool, true, false}
+use mathlib.Core.List.{List, [], _∷_}
+use mathlib.Core.Option.{some}
 use Prim.Native.Nat.{ℕ, suc, _+_, _*_, _/_, _%_, _≤_, _<_}
 use native.Mathlib.Omega.{arith}
-use lib.Dec.{leb, ltb}
+use lib.Dec.{ltb}
 use lib.IntN.{ℤ, pos, negsuc, natAbs}
-use borrow.Author.Tests.{le-leb, ne-eqb, ltb-true, ltb-false}
+use borrow.Author.Tests.{le-leb, ne-eqb, ltb-true}
 use Rattle.decimal.specs.Number.{isDigit, leadingDigits, decimal, unsigned, signed, negated, readsAs}
-use Rattle.decimal.specs.Written.{digitByte, writtenUnits, writtenUnsigned, written}
+use Rattle.decimal.specs.Written.{digitByte, writtenUnsigned, written}
 
 digit-written : (number : ℕ) → number ≤ 9 → isDigit (digitByte number) ≡ true
 digit-written number small = rw (le-leb 48 (48 + number) (omega arith), le-leb (48 + number) 57 (omega arith))

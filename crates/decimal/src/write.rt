@@ -1,6 +1,5 @@
 // Writing a number out: no leading zero before the units digit, a comma and two digits, minus only below zero.
-ghost use mathlib.Core.Path.{_≡_};
-ghost use mathlib.Core.List.{[], _∷_, _++_};
+ghost use mathlib.Core.List.{[], _∷_};
 ghost use Prim.Native.Nat.{_+_, _/_, _%_, _≤_, _<_};
 ghost use lib.IntN.{natAbs};
 ghost use Rattle.decimal.specs.Written.{digitByte, written, writtenSign, writtenUnits, writtenUnsigned};

@@ -1,5 +1,5 @@
 -- Lists of terms: document 01, "The setpoint in a slot", and row 8 of "What the panel turns away". For the auditor.
-use mathlib.Core.Bool.{Bool, true, false, not, cond, _&&_}
+use mathlib.Core.Bool.{Bool, true, not, cond, _&&_}
 use mathlib.Core.List.{List, [], _∷_, map}
 use Prim.Native.Nat.{ℕ, _*_}
 use lib.Dec.{T, ltb, eqb}

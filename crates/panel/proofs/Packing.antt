@@ -1,26 +1,23 @@
 -- Results of the calls from C: a refusal with its fields 0, and the fields of a success.
-use mathlib.Core.Path.{_≡_, refl, sym, ap, subst, _∙_}
+use mathlib.Core.Path.{_≡_, refl, _∙_}
 use mathlib.Core.Bool.{Bool, true, false, cond}
-use mathlib.Core.List.{List, []}
+use mathlib.Core.List.{List}
 use Prim.Native.Nat.{ℕ, zero, suc, _≤_, _<_}
 use native.Mathlib.Omega.{arith}
 use lib.Dec.{ltb}
 use lib.IntN.{ℤ, pos}
 use lib.ListN.{length}
 use borrow.Author.Tests.{lt-ltb, le-ltb}
-use Rattle.limits.specs.Answers.{_when_, _then_, granted}
-use Rattle.limits.proofs.Refusals.{first-counts, granted-nothing}
-use Rattle.profile.specs.Text.{textRefusal, restOf, bandOf, setpointsOf}
+use Rattle.limits.specs.Answers.{_when_, granted}
+use Rattle.limits.proofs.Refusals.{first-counts}
+use Rattle.profile.specs.Text.{textRefusal, setpointsOf}
 use Rattle.bits.specs.Signed.{complement}
 use Rattle.histogram.specs.Restored.{restoredSlot}
 use Rattle.histogram.specs.Errors.{greatestError}
 use Rattle.record.specs.Record.{slotsIn, bandIn, restIn, termsIn}
-use Rattle.record_check.specs.Checking.{slotRefusal, checkRefusal, kept, lowestBeyond, SlotRead, Checked}
-use Rattle.claims.specs.LeastBand.{LeastBand}
-use Rattle.build.specs.Building.{valuesRefusal}
-use Rattle.build.specs.LeastBand.{leastBandRefusal, LeastBandFound}
-use Rattle.panel.specs.Results.{packed, result, slotResult, againstTextRefusal, againstTextResult, leastBandOfTextRefusal, LeastBandOfText}
-use Rattle.panel.specs.Inner.{RightProfile}
+use Rattle.record_check.specs.Checking.{checkRefusal, kept, lowestBeyond, SlotRead, Checked}
+use Rattle.build.specs.LeastBand.{LeastBandFound}
+use Rattle.panel.specs.Results.{packed, result, slotResult, againstTextResult, leastBandOfTextRefusal, LeastBandOfText}
 use Rattle.panel.proofs.Texts.{Held, right-profile}
 
 -- a refusal leaves the other fields 0

@@ -1,15 +1,15 @@
 -- The record of a profile's best synopsis: building is not refused, writing is refused with 6 alone, and the fields fit.
-use mathlib.Core.Path.{_≡_, refl, sym, ap, subst, _∙_}
-use mathlib.Core.Bool.{Bool, true, false, not, _||_}
+use mathlib.Core.Path.{_≡_, refl, sym, _∙_}
+use mathlib.Core.Bool.{Bool, true, false, not}
 use mathlib.Core.List.{List, [], _∷_}
-use Prim.Native.Nat.{ℕ, zero, suc, _≤_, _<_}
+use Prim.Native.Nat.{ℕ, _≤_, _<_}
 use native.Mathlib.Omega.{arith}
 use lib.Dec.{T, ltb}
 use lib.IntN.{ℤ, natAbs}
 use lib.ListN.{length, take, length-take}
 use borrow.Author.Tests.{le-ltb}
 use Rattle.limits.specs.Answers.{_when_, _then_, granted, laid}
-use Rattle.limits.specs.Limits.{beyond, outsideBand, outsideSlots, anyBeyond}
+use Rattle.limits.specs.Limits.{beyond, outsideSlots, anyBeyond}
 use Rattle.limits.proofs.Refusals.{first-counts, granted-nothing, passed, slots-within}
 use Rattle.profile.specs.Text.{textRefusal, restOf, bandOf, setpointsOf}
 use Rattle.histogram.specs.declared.Term.{Term}
@@ -18,11 +18,11 @@ use Rattle.histogram.specs.Terms.{paired, valid}
 use Rattle.histogram.specs.Errors.{greatestError}
 use Rattle.histogram.proofs.Powers.{padded-bound}
 use Rattle.record.specs.Record.{recordLength, recordBytes}
-use Rattle.record.specs.Answers.{packingRefusal, writingRefusal, RecordWritten}
+use Rattle.record.specs.Answers.{writingRefusal, RecordWritten}
 use Rattle.claims.specs.Best.{Best}
-use Rattle.build.specs.Building.{valuesRefusal, buildRefusal, Built, handedOver}
-use Rattle.panel.specs.Results.{packed, result, textToRecordRefusal, TextToRecord}
-use Rattle.panel.specs.Inner.{Fields, RightProfile, RecordBuilt}
+use Rattle.build.specs.Building.{buildRefusal, Built, handedOver}
+use Rattle.panel.specs.Results.{packed, textToRecordRefusal, TextToRecord}
+use Rattle.panel.specs.Inner.{RightProfile, RecordBuilt}
 use Rattle.panel.proofs.Texts.{Held}
 use Rattle.panel.proofs.Packing.{refused-result}
 

@@ -1,17 +1,17 @@
 -- A text that is not refused holds a profile that is not refused: its setpoints are 1 to 512 and lie within ±20,000, and so do its rest value and band within their limits.
-use mathlib.Core.Path.{_≡_, refl, sym, ap, subst, _∙_}
-use mathlib.Core.Bool.{Bool, true, false, not, cond, _||_}
+use mathlib.Core.Path.{_≡_, refl, sym, subst, _∙_}
+use mathlib.Core.Bool.{Bool, true, false, cond}
 use mathlib.Core.List.{List, [], _∷_}
 use mathlib.Core.Option.{Option, none, some}
 use Prim.Native.Nat.{ℕ, zero, suc, _≤_, _<_}
 use native.Mathlib.Omega.{arith}
-use lib.Dec.{T, ltb, eqb}
+use lib.Dec.{T, ltb}
 use lib.IntN.{ℤ, pos, negsuc, natAbs}
 use lib.ListN.{length, take}
 use borrow.Author.Tests.{ltb-false, le-ltb, ne-eqb}
 use mir.Syntax.{w32}
 use mir.Val.{SFits}
-use Rattle.limits.specs.Answers.{_when_, _then_, granted}
+use Rattle.limits.specs.Answers.{_then_}
 use Rattle.limits.specs.Limits.{beyond, outsideBand, outsideSlots, anyBeyond}
 use Rattle.limits.proofs.Laying.{front-of, room-for}
 use Rattle.limits.proofs.Refusals.{none-of-two, passed, passed-last}
@@ -19,7 +19,6 @@ use Rattle.decimal.specs.Answers.{numberOr}
 use Rattle.profile.specs.Text.{lineNumber, numberRefusal, lineRefusal, valueRefusal, bandRefusal, isEmpty, following, setpointsRefusal, setpointsRead, headRefusal, setpointsText, textRefusal, restOf, bandOf, setpointsOf}
 use Rattle.profile.specs.Answers.{TextRead}
 use Rattle.profile.proofs.Checks.{line-within}
-use Rattle.build.specs.Building.{valuesRefusal}
 use Rattle.build.proofs.Accepted.{band-accepted}
 use Rattle.panel.specs.Inner.{RightProfile}
 

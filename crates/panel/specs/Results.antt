@@ -5,7 +5,7 @@ use mathlib.Core.Bool.{cond}
 use mathlib.Core.List.{List, []}
 use Prim.Native.Nat.{ℕ, _+_, _*_}
 use lib.Dec.{ltb}
-use lib.IntN.{ℤ, pos, natAbs}
+use lib.IntN.{natAbs}
 use lib.ListN.{length}
 use Rattle.limits.specs.Answers.{_when_, _then_, granted, laid}
 use Rattle.profile.specs.Text.{textRefusal, restOf, bandOf, setpointsOf}

@@ -12,7 +12,7 @@ use lib.IntN.{ℤ, pos}
 use lib.ListN.{length, take, drop, length-drop}
 use lib.Seq.{take-all, take-add, drop-at, length-take-le}
 use borrow.Author.Tests.{ltb-true, ltb-false, lt-ltb, le-ltb}
-use Rattle.limits.specs.Answers.{_when_, _then_, granted, laid}
+use Rattle.limits.specs.Answers.{_when_, _then_, laid}
 use Rattle.limits.proofs.Refusals.{none-of-two, passed, then-same, granted-same}
 use Rattle.decimal.specs.Number.{readsAs}
 use Rattle.decimal.specs.Answers.{numberOr}

@@ -1,12 +1,12 @@
 -- The loop over the setpoints' lines. Its invariant (`SoFar`): the lines from `at` on continue those read to all of them.
 use mathlib.Core.Path.{_≡_, refl, sym, ap, _∙_}
-use mathlib.Core.Bool.{Bool, true, false, cond}
-use mathlib.Core.List.{List, [], _∷_, _++_, append-nil, append-assoc}
+use mathlib.Core.Bool.{false}
+use mathlib.Core.List.{List, [], _∷_, _++_, append-nil}
 use Prim.Native.Nat.{ℕ, zero, suc, _+_, _-_, _≤_, _<_}
 use native.Mathlib.Numerals.{add-one}
 use native.Mathlib.Omega.{arith}
 use lib.IntN.{ℤ, pos}
-use lib.ListN.{length, getD, set, take, drop, take-append-drop, length-set, length-drop, drop-of-length-le}
+use lib.ListN.{length, set, take, drop, take-append-drop, length-set, length-drop, drop-of-length-le}
 use lib.Seq.{drop-cons, drop-drop, take-suc-set, drop-set-lt, append-snoc, length-take-le}
 use Rattle.limits.specs.Answers.{_then_, granted, laid}
 use Rattle.limits.proofs.Refusals.{first-counts, granted-nothing}

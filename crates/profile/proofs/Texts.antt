@@ -1,15 +1,15 @@
 -- The answer for a whole text, from the answers for its lines.
 use mathlib.Core.Path.{_≡_, refl, sym, ap, _∙_}
-use mathlib.Core.Bool.{true, false}
-use mathlib.Core.List.{List, [], _∷_}
+use mathlib.Core.Bool.{false}
+use mathlib.Core.List.{List, []}
 use Prim.Native.Nat.{ℕ, zero, suc, _+_, _≤_, _<_}
 use native.Mathlib.Omega.{arith}
 use lib.IntN.{ℤ, pos}
 use lib.ListN.{length, drop, drop-of-length-le}
 use lib.Seq.{drop-drop}
-use Rattle.limits.specs.Answers.{_when_, _then_, granted, laid}
+use Rattle.limits.specs.Answers.{laid}
 use Rattle.limits.proofs.Refusals.{first-counts, granted-nothing}
-use Rattle.profile.specs.Text.{isEmpty, following, lineRefusal, valueRefusal, bandRefusal, headRefusal, setpointsText, setpointsRefusal, setpointsRead, textRefusal, setpointsOf}
+use Rattle.profile.specs.Text.{isEmpty, following, lineRefusal, valueRefusal, bandRefusal, headRefusal, setpointsText, setpointsRead, textRefusal, setpointsOf}
 use Rattle.profile.specs.Answers.{NumbersOf, TextRead}
 use Rattle.profile.specs.Inner.{LineRead, SetpointsRead}
 use Rattle.profile.proofs.Setpoints.{some-byte, none-read}

@@ -1,18 +1,17 @@
 -- Bits cut into fields: what stands in front, and what a field's number gives back.
-use mathlib.Core.Path.{_≡_, refl, sym, ap, ap₂, _∙_}
-use mathlib.Core.List.{List, [], _∷_, _++_, append-assoc}
-use Prim.Native.Nat.{ℕ, zero, suc, _+_, _*_, _-_, _^_, _≤_, _<_}
+use mathlib.Core.Path.{_≡_, refl, sym, ap, _∙_}
+use mathlib.Core.List.{List, _∷_, _++_}
+use Prim.Native.Nat.{ℕ, zero, suc, _+_, _-_, _^_, _≤_, _<_}
 use native.Mathlib.Nat.{zero-div}
 use native.Mathlib.Omega.{arith}
-use lib.IntN.{ℤ}
-use lib.ListN.{length, take, drop, replicate, length-append, length-take, length-drop, take-append-drop}
+use lib.ListN.{length, take, drop, replicate, take-append-drop}
 use lib.Seq.{take-at, drop-at, drop-drop, length-take-le}
 use Rattle.bits.specs.Bits.{bits, numberOf}
 use Rattle.bits.specs.Signed.{complement, signedOf}
-use Rattle.bits.specs.Inner.{Below, SignedBits}
-use Rattle.bits.proofs.Numbers.{take-below, drop-below}
+use Rattle.bits.specs.Inner.{Below}
+use Rattle.bits.proofs.Numbers.{take-below}
 use Rattle.bits.proofs.Fields.{length-bits, number-of-bits, bits-of-number, field-number-below}
-use Rattle.bits.proofs.Complement.{complement-reads-back, signed-writes-back, complement-fits}
+use Rattle.bits.proofs.Complement.{signed-writes-back}
 
 -- a number written at a place reads back, and what follows it begins after its width
 module _ (before : List ℕ) (place width number : ℕ) (back : List ℕ) (stands : drop place before ≡ bits width number ++ back) where

@@ -3,7 +3,7 @@
 use mathlib.Core.Path.{_≡_, refl, sym, ap, ap₂, _∙_}
 use mathlib.Core.Bool.{Bool, true, false, not, _&&_, true≢false}
 use mathlib.Core.List.{List, [], _∷_, _++_, append-assoc}
-use Prim.Native.Nat.{ℕ, zero, suc, _+_, _*_, _-_, _/_, _^_, _≤_, _<_}
+use Prim.Native.Nat.{ℕ, zero, suc, _+_, _*_, _-_, _^_, _≤_, _<_}
 use native.Mathlib.Omega.{arith}
 use lib.Dec.{leb, ltb, eqb}
 use lib.IntN.{ℤ, pos, negsuc, natAbs}
@@ -13,7 +13,7 @@ use borrow.Author.Tests.{le-leb, le-ltb, eq-eqb, eqb-true, leb-true, ltb-false, 
 use Rattle.limits.specs.Limits.{beyond, outsideBand, outsideSlots}
 use Rattle.limits.specs.Answers.{_when_, _then_}
 use Rattle.limits.proofs.Refusals.{none-of-two, passed, passed-last, slots-within}
-use Rattle.bits.specs.Bits.{bits, numberOf, bitsOf, fieldAt, packed}
+use Rattle.bits.specs.Bits.{bits, numberOf, bitsOf, fieldAt}
 use Rattle.bits.specs.Signed.{complement, signedOf}
 use Rattle.bits.specs.Inner.{Below, SignedBits}
 use Rattle.bits.proofs.Numbers.{append-below, drop-below, nil-below}

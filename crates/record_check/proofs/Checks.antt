@@ -1,16 +1,15 @@
 -- The check's ways out: each refusal in its turn, and the verdict where none is left.
-use mathlib.Core.Path.{_≡_, refl, sym, ap, _∙_}
-use mathlib.Core.Bool.{Bool, true, false, not}
+use mathlib.Core.Path.{_≡_, refl, sym, _∙_}
+use mathlib.Core.Bool.{Bool, true, false}
 use mathlib.Core.List.{List}
-use Prim.Native.Nat.{ℕ, zero, suc, _≤_, _<_}
+use Prim.Native.Nat.{ℕ, _≤_, _<_}
 use native.Mathlib.Omega.{arith}
-use lib.Dec.{T, eqb}
 use lib.IntN.{ℤ, pos, natAbs}
 use lib.ListN.{length, take}
 use borrow.Author.Tests.{eq-eqb, ne-eqb, ltb-false}
 use Rattle.limits.specs.Limits.{outsideSlots, anyBeyond}
 use Rattle.limits.proofs.Refusals.{first-counts, slots-within}
-use Rattle.histogram.specs.Terms.{paired, valid}
+use Rattle.histogram.specs.Terms.{paired}
 use Rattle.record.specs.Record.{slotsIn, bandIn, restIn, termsIn}
 use Rattle.record.specs.Answers.{recordRefusal}
 use Rattle.record_read.specs.Inner.{RoomRead}

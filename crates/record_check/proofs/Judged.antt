@@ -1,18 +1,18 @@
 -- From the values handed down to all nodes to the verdict: the slots' part of them is what a synopsis restores.
-use mathlib.Core.Path.{_≡_, refl, sym, ap, _∙_}
-use mathlib.Core.Bool.{Bool, true, false, not, cond, _||_}
+use mathlib.Core.Path.{_≡_, ap, _∙_}
+use mathlib.Core.Bool.{Bool, true, false, cond}
 use mathlib.Core.Logic.{⊎-elim}
 use mathlib.Core.List.{List, [], _∷_}
 use Prim.Native.Nat.{ℕ, zero, suc, _+_, _*_, _-_, _/_, _≤_, _<_, min}
 use native.Mathlib.Omega.{arith}
-use lib.Dec.{T, leb, ltb, eqb}
+use lib.Dec.{leb, ltb, eqb}
 use lib.IntN.{ℤ, pos, natAbs, _-ℤ_}
 use lib.ListN.{length, getD, take, drop, length-take, length-drop, List·getD-eq-default}
 use lib.Seq.{getD-take, getD-drop}
 use Rattle.limits.proofs.Beyond.{within-all}
 use Rattle.histogram.specs.declared.Term.{Term}
 use Rattle.histogram.specs.Tree.{padded}
-use Rattle.histogram.specs.Terms.{paired, valid, termOr}
+use Rattle.histogram.specs.Terms.{paired, termOr}
 use Rattle.histogram.specs.Restored.{restored, restoredAt, restoredSlot, pathNodes}
 use Rattle.histogram.specs.Errors.{setpointOf, slotError}
 use Rattle.histogram.proofs.Ascent.{ValidFrom, first-within, rest-valid}

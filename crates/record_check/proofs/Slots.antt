@@ -1,14 +1,14 @@
 -- One slot of a record: the record's refusals, and then those of restoring that can still come.
-use mathlib.Core.Path.{_≡_, refl, sym, ap, _∙_}
-use mathlib.Core.Bool.{Bool, true, false, not}
+use mathlib.Core.Path.{_≡_, sym, _∙_}
+use mathlib.Core.Bool.{true, false, not}
 use mathlib.Core.List.{List}
-use Prim.Native.Nat.{ℕ, zero, suc, _+_, _≤_, _<_}
+use Prim.Native.Nat.{ℕ, _≤_, _<_}
 use native.Mathlib.Omega.{arith}
-use lib.Dec.{leb, ltb, eqb}
+use lib.Dec.{ltb}
 use lib.IntN.{ℤ, pos}
-use lib.ListN.{length, take}
+use lib.ListN.{take}
 use borrow.Author.Tests.{ne-eqb, le-ltb, not-false}
-use Rattle.limits.specs.Answers.{_when_, _then_, granted}
+use Rattle.limits.specs.Answers.{_when_, _then_}
 use Rattle.limits.specs.Limits.{beyond, outsideSlots}
 use Rattle.limits.proofs.Refusals.{first-counts, granted-nothing, none-of-two, passed, passed-last}
 use Rattle.bits.proofs.Bytes.{field-below}

@@ -1,8 +1,8 @@
 -- One slot of a record, and the check of setpoints against a record: document 01, "Building, checking, least band". For the auditor.
 -- `proofs/Verdicts.antt` shows that `kept` says what `Keeps` of the histogram says.
 use mathlib.Core.Path.{_≡_}
-use mathlib.Core.Bool.{Bool, true, false, not, cond, _&&_, _||_}
-use mathlib.Core.List.{List, [], _∷_}
+use mathlib.Core.Bool.{Bool, true, false, not, cond, _&&_}
+use mathlib.Core.List.{List}
 use Prim.Native.Nat.{ℕ, zero, suc}
 use lib.Dec.{leb, ltb, eqb}
 use lib.IntN.{ℤ, pos}

@@ -6,7 +6,7 @@ use native.Mathlib.Omega.{arith}
 use lib.IntN.{ℤ, pos}
 use lib.ListN.{length, take, drop}
 use borrow.Author.Tests.{lt-ltb, le-ltb}
-use Rattle.limits.specs.Answers.{_when_, _then_, granted, laid}
+use Rattle.limits.specs.Answers.{laid}
 use Rattle.limits.proofs.Laying.{front-of, room-for}
 use Rattle.limits.proofs.Refusals.{first-counts, granted-nothing, none-of-two}
 use Rattle.bits.specs.Bits.{bitsOf}

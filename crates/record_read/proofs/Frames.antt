@@ -1,18 +1,17 @@
 -- The frame of a record: which bytes are none of row 7, and the header's refusals after it.
 use mathlib.Core.Path.{_≡_, refl, sym, ap, _∙_}
-use mathlib.Core.Bool.{Bool, true, false, not, _&&_, and-false, false≢true}
+use mathlib.Core.Bool.{true, false, and-false, false≢true}
 use mathlib.Core.List.{List}
-use Prim.Native.Nat.{ℕ, zero, suc, _+_, _*_, _≤_, _<_}
+use Prim.Native.Nat.{ℕ, zero, suc, _≤_, _<_}
 use native.Mathlib.Omega.{arith}
-use lib.Dec.{leb, ltb, eqb}
-use lib.IntN.{ℤ, pos, negsuc}
+use lib.Dec.{eqb}
+use lib.IntN.{ℤ, pos}
 use lib.ListN.{length}
 use borrow.Author.Tests.{le-leb, lt-leb, eq-eqb, ne-eqb}
-use Rattle.limits.specs.Answers.{_when_, _then_, granted}
 use Rattle.limits.specs.Limits.{beyond, outsideBand}
 use Rattle.record.specs.Record.{recordLength, versionIn, slotsIn, bandIn, restIn, countIn, fillIn, wellFormed}
-use Rattle.record.specs.Answers.{headerRefusal, HeaderOf}
-use Rattle.record_read.specs.Inner.{FrameRead, fieldsRefusal, FieldsRead, HeaderRead}
+use Rattle.record.specs.Answers.{HeaderOf}
+use Rattle.record_read.specs.Inner.{FrameRead, FieldsRead, HeaderRead}
 
 module _ (bytes : List ℕ) where
   not-right : wellFormed bytes ≡ false → FrameRead bytes false 0

@@ -1,8 +1,8 @@
 -- A record read into room: its header's refusal, that of its terms, or none.
-use mathlib.Core.Path.{_≡_, refl, sym, ap, ap₂, _∙_}
-use mathlib.Core.Bool.{Bool, true, false, not}
-use mathlib.Core.List.{List, [], _∷_}
-use Prim.Native.Nat.{ℕ, _+_, _*_, _≤_, _<_}
+use mathlib.Core.Path.{_≡_, sym, ap, _∙_}
+use mathlib.Core.Bool.{true, false, not}
+use mathlib.Core.List.{List, []}
+use Prim.Native.Nat.{ℕ, _*_, _≤_, _<_}
 use native.Mathlib.Omega.{arith}
 use lib.Dec.{ltb}
 use lib.IntN.{ℤ, pos}
@@ -14,12 +14,11 @@ use Rattle.limits.proofs.Laying.{front-of, room-for}
 use Rattle.limits.proofs.Refusals.{first-counts, granted-nothing, passed}
 use Rattle.bits.specs.Bits.{bitsOf}
 use Rattle.bits.proofs.Bytes.{field-below}
-use Rattle.histogram.specs.declared.Term.{Term}
 use Rattle.histogram.specs.Tree.{padded}
 use Rattle.histogram.specs.Terms.{paired, nodesOf, valuesOf, validFrom, valid}
 use Rattle.histogram.proofs.Paired.{paired-again}
 use Rattle.record.specs.Record.{recordLength, slotsIn, bandIn, restIn, countIn, termsFrom, termsIn, wellFormed}
-use Rattle.record.specs.Answers.{headerRefusal, recordRefusal, HeaderOf}
+use Rattle.record.specs.Answers.{headerRefusal}
 use Rattle.record.proofs.RoundTrips.{well-formed-parts}
 use Rattle.record_read.specs.Inner.{Framed, HeaderRead, TermsRead, RoomRead}
 use Rattle.record_read.proofs.Frames.{no-header}

@@ -1,19 +1,17 @@
 -- The answer of a subtree: its windows are sorted, at least one and at most one a slot, and its number is below that of its slots.
 use mathlib.Core.Path.{_≡_, refl, sym, ap, subst, _∙_}
-use mathlib.Core.Bool.{Bool, true, false}
 use mathlib.Core.List.{List, [], _∷_}
-use Prim.Native.Nat.{ℕ, zero, suc, _+_, _*_, _-_, _^_, _≤_, _<_, min}
+use Prim.Native.Nat.{ℕ, zero, suc, _+_, _-_, _^_, _≤_, _<_}
 use native.Mathlib.Omega.{arith}
 use lib.Dec.{T}
 use lib.IntN.{ℤ, pos, natAbs}
 use lib.ListN.{length, getD, take, drop}
 use lib.Seq.{getD-drop}
 use mir.Facts.{yes-and}
-use Rattle.claims.specs.Inner.{lifted}
 use Rattle.claims.proofs.Lifted.{lifted-within}
-use Rattle.windows.specs.Windows.{Window, covers, Sorted, meet, join}
+use Rattle.windows.specs.Windows.{Window, covers, Sorted, meet}
 use Rattle.windows.proofs.Sets.{covers-meet, sorted-meet, sorted-join, length-meet, length-join}
-use Rattle.subtree.specs.Answer.{Answer, slotWindow, combinedBy, combined, answer}
+use Rattle.subtree.specs.Answer.{Answer, combinedBy, combined, answer}
 use Rattle.subtree.specs.Stretch.{Within}
 
 -- where what is in both sets is listed as empty, no value is in both

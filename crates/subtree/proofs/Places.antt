@@ -1,9 +1,8 @@
 -- How many places a stretch has: by the stretches of the children, in closed form, and at most 12,286 for 512 slots.
 use mathlib.Core.Path.{_≡_, refl, sym, ap, ap₂, subst, _∙_}
-use Prim.Native.Nat.{ℕ, zero, suc, _+_, _*_, _-_, _^_, _%_, _≤_, _<_}
+use Prim.Native.Nat.{ℕ, zero, suc, _+_, _*_, _-_, _^_, _≤_, _<_}
 use native.Mathlib.Omega.{arith}
-use native.Mathlib.Nat.{add-mul, mul-add, zero-add, one-mul, mod-eq-of-lt}
-use lib.Pow.{pow-lt}
+use native.Mathlib.Nat.{add-mul, mul-add, zero-add}
 use Rattle.subtree.specs.Stretch.{ownPlaces, places, Planned}
 
 pub places-above : (height : ℕ) → places (suc height) ≡ ownPlaces (suc height) + places height + places height

@@ -8,13 +8,12 @@ use native.Mathlib.Nat.{add-mul, mul-assoc, mul-left-comm}
 use native.Mathlib.Omega.{arith}
 use lib.Dec.{T, leb, le→leb}
 use borrow.Author.Tests.{leb-true, leb-false, le-leb, lt-leb}
-use lib.IntN.{ℤ, pos, natAbs}
+use lib.IntN.{ℤ, pos}
 use lib.ListN.{length, getD, take, drop}
 use lib.Seq.{getD-drop, getD-take}
 use mir.Facts.{and-yes}
 use Rattle.histogram.specs.Tree.{height, padded}
 use Rattle.histogram.specs.Errors.{setpointOf}
-use Rattle.fewest.specs.Node.{missed}
 use Rattle.fewest.specs.Tree.{binary}
 use Rattle.fewest.specs.Cost.{cost}
 use Rattle.fewest.specs.Row.{Inhabited, Row}
@@ -22,7 +21,7 @@ use Rattle.fewest.proofs.Rows.{same-set, row-needs, leaf-row}
 use Rattle.fewest.proofs.Meeting.{sets-meet, sets-apart}
 use Rattle.claims.specs.Inner.{lifted, distance, accepts, fewestTerms, InRange}
 use Rattle.claims.proofs.Lifted.{lifted-within}
-use Rattle.windows.specs.Windows.{Window, inside, covers, Sorted, meet, join}
+use Rattle.windows.specs.Windows.{Window, inside, covers, Sorted, meet}
 use Rattle.windows.proofs.Sets.{covers-meet, covers-join, first-within, first-inside, sorted-meet}
 use Rattle.subtree.specs.Answer.{Answer, slotWindow, combinedBy, combined, answer, needed}
 use Rattle.subtree.specs.Stretch.{Within}

@@ -5,7 +5,7 @@ use native.Mathlib.Omega.{arith}
 use lib.ListN.{length}
 use mir.Facts.{toZ-ofZ}
 use Rattle.build.specs.Building.{buildRefusal}
-use Rattle.build.proofs.Accepted.{band-accepted, buildable, band-from-zero, build-band-within}
+use Rattle.build.proofs.Accepted.{buildable, band-from-zero, build-band-within}
 use Rattle.build.proofs.Answers.{refused, handed}
 use Rattle.build.proofs.build_synopsis.Statement.{statement}
 use Rattle.build.proofs.build_synopsis.Tie as tie

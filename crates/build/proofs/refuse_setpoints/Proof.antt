@@ -4,7 +4,7 @@ use mathlib.Core.Path.{_≡_, sym, _∙_}
 use mathlib.Core.Bool.{false}
 use lib.ListN.{length}
 use mir.Facts.{toZ-ofZ}
-use Rattle.limits.specs.Limits.{beyond, outsideSlots, anyBeyond}
+use Rattle.limits.specs.Limits.{beyond, outsideSlots}
 use Rattle.build.proofs.refuse_setpoints.Statement.{statement}
 use Rattle.build.proofs.refuse_setpoints.Tie as tie
 

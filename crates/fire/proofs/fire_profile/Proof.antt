@@ -1,7 +1,6 @@
 -- `fire::fire_profile` is safe and ends.
 use borrow.Author.Needs.{needs}
 use mathlib.Core.Path.{sym, _∙_}
-use native.Mathlib.Omega.{arith}
 use lib.Seq.{length-take-le}
 use Rattle.panel.proofs.Records.{nodes-enough, values-enough, at-most-512}
 use Rattle.fire.proofs.fire_profile.Statement.{statement}

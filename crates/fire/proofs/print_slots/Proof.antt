@@ -1,7 +1,5 @@
 -- `fire::print_slots` is safe and ends.
 use Prim.Native.Nat.{_-_, _≤_}
-use native.Mathlib.Omega.{arith}
-use lib.ListN.{length}
 use borrow.Author.Needs.{needs}
 use Rattle.fire.proofs.print_slots.Statement.{statement}
 use Rattle.fire.proofs.print_slots.Tie as tie

@@ -1,5 +1,5 @@
 -- `limits::magnitude` meets its contract: below 0 the sign is turned, which 64 bits have room for.
-use mathlib.Core.Path.{ap, _∙_}
+use mathlib.Core.Path.{ap}
 use lib.IntN.{natAbs}
 use mir.Facts.{toZ-ofZ, sfits-widen, fits-natAbs}
 use Rattle.limits.proofs.Signed.{widened, turned, turned-fits, not-below}

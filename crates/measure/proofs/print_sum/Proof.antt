@@ -1,6 +1,5 @@
 -- `measure::print_sum` is safe and ends. The invariant: the sum stays in 16 bits.
-use mathlib.Core.Path.{_≡_}
-use Prim.Native.Nat.{_*_, _-_, _≤_, _<_}
+use Prim.Native.Nat.{_-_, _≤_, _<_}
 use lib.ListN.{length}
 use borrow.Author.Needs.{needs}
 use Rattle.measure.proofs.print_sum.Statement.{statement}

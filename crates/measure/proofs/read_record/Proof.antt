@@ -1,6 +1,6 @@
 -- `measure::read_record` is safe and ends. The invariant: the rooms keep their lengths, and the sum of the refusals stays small.
 use mathlib.Core.Path.{_≡_}
-use Prim.Native.Nat.{_*_, _-_, _≤_, _<_}
+use Prim.Native.Nat.{_*_, _-_, _≤_}
 use lib.ListN.{length}
 use borrow.Author.Needs.{needs}
 use Rattle.measure.proofs.read_record.Statement.{statement}

@@ -1,7 +1,5 @@
 -- `measure::read_slot` is safe and ends. The invariant: the sum of the refusals stays small.
-use mathlib.Core.Path.{_≡_}
 use Prim.Native.Nat.{_*_, _-_, _≤_}
-use lib.ListN.{length}
 use borrow.Author.Needs.{needs}
 use Rattle.measure.proofs.read_slot.Statement.{statement}
 use Rattle.measure.proofs.read_slot.Tie as tie

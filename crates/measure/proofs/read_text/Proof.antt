@@ -1,6 +1,6 @@
 -- `measure::read_text` is safe and ends. The invariant: the room keeps its length.
 use mathlib.Core.Path.{_≡_}
-use Prim.Native.Nat.{_*_, _-_, _≤_, _<_}
+use Prim.Native.Nat.{_-_}
 use lib.ListN.{length}
 use borrow.Author.Needs.{needs}
 use Rattle.measure.proofs.read_text.Statement.{statement}

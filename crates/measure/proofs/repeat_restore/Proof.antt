@@ -1,6 +1,6 @@
 -- `measure::repeat_restore` is safe and ends. The invariant: the room keeps its length, and the sum of the refusals stays small.
 use mathlib.Core.Path.{_≡_}
-use Prim.Native.Nat.{_*_, _-_, _≤_, _<_}
+use Prim.Native.Nat.{_*_, _-_, _≤_}
 use lib.ListN.{length}
 use borrow.Author.Needs.{needs}
 use Rattle.measure.proofs.repeat_restore.Statement.{statement}

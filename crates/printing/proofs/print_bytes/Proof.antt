@@ -1,5 +1,4 @@
 -- `printing::print_bytes` is safe and ends.
-use mathlib.Core.Path.{_≡_}
 use Prim.Native.Nat.{_-_, _≤_}
 use lib.ListN.{length}
 use borrow.Author.Needs.{needs}

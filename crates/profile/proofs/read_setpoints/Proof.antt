@@ -1,8 +1,7 @@
 -- `profile::read_setpoints` meets its contract. The invariant is `SoFar` of `Setpoints`; the measure is what is left of the text.
-use mathlib.Core.Path.{_≡_, refl, sym, ap, _∙_}
-use Prim.Native.Nat.{ℕ, _+_, _-_, _≤_, _<_}
+use mathlib.Core.Path.{_≡_, refl, sym, _∙_}
+use Prim.Native.Nat.{_+_, _-_, _≤_, _<_}
 use native.Mathlib.Omega.{arith}
-use lib.IntN.{natAbs}
 use lib.ListN.{length, drop, length-drop}
 use borrow.Author.Needs.{needs}
 use mir.Syntax.{w16, w32}

@@ -1,13 +1,9 @@
 -- `record_check::check_record` meets its contract: each way out is a case of `Checks`.
-use mathlib.Core.Path.{_≡_, sym, ap, _∙_}
-use Prim.Native.Nat.{ℕ, _≤_, _<_, _^_}
+use mathlib.Core.Path.{sym, _∙_}
 use native.Mathlib.Omega.{arith}
-use lib.IntN.{ℤ, pos, natAbs}
-use lib.ListN.{length}
-use mir.Syntax.{w16, w32}
-use mir.Val.{SFits, Fits, toZ, ofZ}
+use mir.Syntax.{w32}
+use mir.Val.{SFits, Fits}
 use mir.Facts.{toZ-ofZ}
-use Rattle.limits.specs.Limits.{outsideSlots}
 use Rattle.bits.proofs.Bytes.{field-below}
 use Rattle.limits.proofs.Signed.{narrower, narrower-fits}
 use Rattle.record.specs.Record.{bandIn}

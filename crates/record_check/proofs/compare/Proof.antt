@@ -1,6 +1,6 @@
 -- `record_check::compare` meets its contract. The invariant is `SoFar` of `Compared`; the measure is the number of slots left.
-use mathlib.Core.Path.{_≡_, refl}
-use Prim.Native.Nat.{_-_, _≤_, _<_}
+use mathlib.Core.Path.{refl}
+use Prim.Native.Nat.{_-_}
 use native.Mathlib.Omega.{arith}
 use lib.ListN.{length}
 use borrow.Author.Needs.{needs}

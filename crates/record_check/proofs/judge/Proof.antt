@@ -1,17 +1,15 @@
 -- `record_check::judge` meets its contract: the slots' part of the values handed down is compared, which `Judged` turns into the verdict.
-use mathlib.Core.Path.{_≡_, refl, sym, ap, _∙_}
+use mathlib.Core.Path.{_≡_}
 use Prim.Native.Nat.{ℕ, _*_, _≤_, _<_}
 use native.Mathlib.Omega.{arith}
 use lib.IntN.{pos}
 use lib.ListN.{length, getD}
 use lib.Pow.{pow-pos}
 use mir.Facts.{toZ-ofZ}
-use Rattle.histogram.specs.Tree.{height, padded}
+use Rattle.histogram.specs.Tree.{height}
 use Rattle.histogram.specs.Terms.{paired}
 use Rattle.histogram.specs.Restored.{restoredAt}
-use Rattle.histogram.specs.Inner.{Handing}
 use Rattle.histogram.proofs.Powers.{padded-bound}
-use Rattle.record_check.specs.Inner.{Comparable}
 use Rattle.record_check.proofs.Judged.{comparable, judged}
 use borrow.Author.Needs.{needs}
 use Rattle.record_check.proofs.judge.Statement.{statement}

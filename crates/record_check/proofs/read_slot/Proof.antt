@@ -1,5 +1,5 @@
 -- `record_check::read_slot` meets its contract: the record's refusal, or the slot restored from the terms in the room.
-use mathlib.Core.Path.{_≡_, sym, _∙_}
+use mathlib.Core.Path.{sym, _∙_}
 use Rattle.record_read.proofs.Accepted as Accepted
 use mir.Syntax.{w32}
 use mir.Val.{SFits}

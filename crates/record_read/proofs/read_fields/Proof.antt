@@ -1,15 +1,14 @@
 -- `record_read::read_fields` meets its contract: the rest value's refusal, the band's, or the fields.
 use mathlib.Core.Path.{_≡_, sym, ap, _∙_}
-use Prim.Native.Nat.{_<_, _^_}
 use native.Mathlib.Omega.{arith}
 use lib.IntN.{pos}
 use mir.Syntax.{w16, w32}
-use mir.Val.{SFits, toZ, ofZ}
+use mir.Val.{SFits, toZ}
 use mir.Facts.{toZ-ofZ, sfits-widen}
 use mir.ValLaws.{toZ-pos}
 use Rattle.bits.proofs.Bytes.{field-below}
 use Rattle.limits.proofs.Signed.{widened-to}
-use Rattle.record.specs.Record.{slotsIn, bandIn, restIn}
+use Rattle.record.specs.Record.{bandIn, restIn}
 use Rattle.record_read.proofs.Frames.{rest-wrong, band-wrong, fields-right}
 use borrow.Author.Needs.{needs}
 use Rattle.record_read.proofs.read_fields.Statement.{statement}

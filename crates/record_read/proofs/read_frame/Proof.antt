@@ -1,9 +1,8 @@
 -- `record_read::read_frame` meets its contract: each way out is a case of row 7.
 use mathlib.Core.Path.{_≡_, sym, _∙_}
-use Prim.Native.Nat.{ℕ, _≤_, _<_}
 use native.Mathlib.Omega.{arith}
 use Rattle.bits.proofs.Bytes.{field-below}
-use Rattle.record.specs.Record.{versionIn, countIn, recordLength}
+use Rattle.record.specs.Record.{versionIn, countIn}
 use Rattle.record_read.proofs.Frames.{too-short, wrong-version, wrong-byte-count, by-fill}
 use borrow.Author.Needs.{needs}
 use Rattle.record_read.proofs.read_frame.Statement.{statement}

@@ -1,10 +1,9 @@
 -- `record_read::read_into_room` meets its contract: each way out is a case of `Rooms`.
-use mathlib.Core.Path.{_≡_, sym, ap, _∙_}
-use Prim.Native.Nat.{ℕ, _*_, _≤_}
+use mathlib.Core.Path.{sym, ap, _∙_}
+use Prim.Native.Nat.{ℕ, _*_}
 use native.Mathlib.Omega.{arith}
-use lib.ListN.{length, take}
+use lib.ListN.{length}
 use Rattle.histogram.proofs.Powers.{padded-bound}
-use Rattle.record_read.specs.Inner.{HeaderRead, TermsRead}
 use Rattle.record_read.proofs.Rooms
 use Rattle.record_read.proofs.Terms.{nodes-long, values-long}
 use borrow.Author.Needs.{needs}

@@ -1,6 +1,5 @@
 -- `record_read::read_record` meets its contract: the record's own refusal, 6, or its terms laid over the destinations.
-use mathlib.Core.Path.{_≡_, sym}
-use Prim.Native.Nat.{_≤_}
+use mathlib.Core.Path.{sym}
 use native.Mathlib.Omega.{arith}
 use Rattle.record_read.proofs.Accepted
 use borrow.Author.Needs.{needs}

@@ -1,6 +1,5 @@
 -- `synopsis::build_in_room` meets its contract.
 use mathlib.Core.Path.{_≡_, sym, _∙_}
-use Prim.Native.Nat.{ℕ}
 use lib.ListN.{length, take, replicate, length-replicate}
 use mir.Facts.{toZ-ofZ}
 use Rattle.synopsis.proofs.Rooms.{room-part, built-in-room}

@@ -12,7 +12,7 @@ use Rattle.synopsis.specs.Inner.{termAt, PartsOf}
 use Rattle.synopsis.proofs.Answering.{Of, answers}
 use Rattle.synopsis.proofs.Counting.{counts}
 use Rattle.synopsis.proofs.Rooms.{parts-of-terms}
-use Rattle.synopsis.proofs.Rows.{roomTy, NodesAre, ValuesAre, parts-right, nodes-right, values-right, right-parts, nodes-long, values-long, nodes-typed, values-typed, nodes-row, values-row, nodes-array, values-array}
+use Rattle.synopsis.proofs.Rows.{roomTy, nodes-right, values-right, right-parts, nodes-long, values-long, nodes-typed, values-typed, nodes-row, values-row, nodes-array, values-array}
 use Rattle.synopsis.proofs.Storing.{stored, length-stored, parts-laid}
 use Rattle.synopsis.proofs.Parts as K
 use Rattle.synopsis.proofs.Parts.Laws as K′

@@ -1,7 +1,6 @@
 -- `build::tree::build_tree` meets its contract.
 use borrow.Author.Needs.{needs}
 use mathlib.Core.Path.{_∙_}
-use native.Mathlib.Omega.{arith}
 use Rattle.build.proofs.OverTree.{searchable, levels-fit, tree-built}
 use Rattle.build.proofs.tree.build_tree.Statement.{statement}
 use Rattle.build.proofs.tree.build_tree.Tie as tie

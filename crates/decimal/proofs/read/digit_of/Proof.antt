@@ -1,11 +1,11 @@
 -- `decimal::read::digit_of` meets its contract: the difference from `0` is below 10 just where the byte is a digit.
 use mathlib.Core.Path.{_≡_, refl}
-use mathlib.Core.Bool.{Bool, true, false, _&&_, and-false}
+use mathlib.Core.Bool.{Bool, true, false, _&&_}
 use Prim.Native.Nat.{ℕ, _+_, _-_, _%_, _≤_, _<_, _^_}
 use native.Mathlib.Omega.{arith}
 use lib.Dec.{leb}
-use borrow.Author.Tests.{le-leb, leb-true, leb-false}
-use Rattle.decimal.specs.Number.{isDigit, digit}
+use borrow.Author.Tests.{le-leb, leb-true}
+use Rattle.decimal.specs.Number.{isDigit}
 use Rattle.decimal.specs.Inner.{DigitRead}
 use borrow.Author.Needs.{needs}
 use Rattle.decimal.proofs.read.digit_of.Statement.{statement}

@@ -1,5 +1,4 @@
 -- `decimal::write::text_of` meets its contract: the sign, then the number without it.
-use mathlib.Core.Path.{_≡_}
 use mathlib.Core.List.{[]}
 use Prim.Native.Nat.{_≤_}
 use native.Mathlib.Omega.{arith}

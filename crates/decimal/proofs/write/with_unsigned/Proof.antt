@@ -1,7 +1,6 @@
 -- `decimal::write::with_unsigned` meets its contract: the units, the comma and two digits, one after the other.
 use Prim.Native.Nat.{_/_}
 use native.Mathlib.Omega.{arith}
-use mathlib.Core.List.{_∷_, [], append-assoc}
 use Rattle.decimal.proofs.Texts.{grown-twice, few-units}
 use borrow.Author.Needs.{needs}
 use Rattle.decimal.proofs.write.with_unsigned.Statement.{statement}

@@ -10,10 +10,9 @@ use borrow.Author.Tests.{ltb-false, lt-ltb, le-ltb}
 use mir.Facts.{toZ-ofZ}
 use Rattle.limits.specs.Answers.{laid}
 use Rattle.limits.specs.Limits.{beyond}
-use Rattle.limits.proofs.Laying.{length-laid}
 use Rattle.decimal.specs.Written.{written}
 use Rattle.decimal.specs.Answers.{NumberWritten}
-use Rattle.decimal.specs.Inner.{held, Grown}
+use Rattle.decimal.specs.Inner.{Grown}
 use borrow.Author.Needs.{needs}
 use Rattle.decimal.proofs.write.write_number.Statement.{statement}
 use Rattle.decimal.proofs.write.write_number.Tie as tie

@@ -1,5 +1,5 @@
 -- `histogram::restore::restore_checked_slot` meets its contract: a synopsis that is not refused has few slots and a small rest value, so that the casts keep both.
-use mathlib.Core.Path.{_≡_, refl, sym, _∙_}
+use mathlib.Core.Path.{refl, sym, _∙_}
 use Prim.Native.Nat.{_+_, _≤_}
 use native.Mathlib.Omega.{arith}
 use lib.Pow.{pow-pos}

@@ -3,14 +3,13 @@ use mathlib.Core.Path.{_≡_, refl, sym, ap, _∙_}
 use mathlib.Core.List.{List, []}
 use Prim.Native.Nat.{ℕ, _+_, _-_, _*_, _≤_, _<_}
 use native.Mathlib.Omega.{arith}
-use lib.Dec.{ltb}
 use lib.IntN.{ℤ, pos}
 use lib.ListN.{length, getD, take, drop}
 use lib.Pow.{pow-pos}
 use borrow.Author.Needs.{needs}
 use borrow.Author.Tests.{lt-ltb, le-ltb}
 use mir.Facts.{toZ-ofZ}
-use Rattle.limits.specs.Answers.{_when_, laid}
+use Rattle.limits.specs.Answers.{laid}
 use Rattle.histogram.specs.Tree.{height}
 use Rattle.histogram.specs.Terms.{paired}
 use Rattle.histogram.specs.Restored.{restoredAt, restoredSlot, restoredProfile}

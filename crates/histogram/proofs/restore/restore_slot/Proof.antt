@@ -1,24 +1,12 @@
 -- `histogram::restore::restore_slot` meets its contract: the refusal of the synopsis, or the answer of one that is not refused.
-use mathlib.Core.Path.{_≡_, refl, sym, _∙_}
-use Prim.Native.Nat.{_+_, _≤_}
-use native.Mathlib.Omega.{arith}
-use lib.Dec.{leb}
+use mathlib.Core.Path.{_≡_, sym}
 use lib.IntN.{pos}
-use lib.Pow.{pow-pos}
 use borrow.Author.Needs.{needs}
-use borrow.Author.Tests.{le-leb, lt-leb}
-use mir.Syntax.{w16}
-use mir.Val.{SFits}
 use mir.Facts.{toZ-ofZ}
-use Rattle.limits.specs.Answers.{_when_}
-use Rattle.histogram.specs.Tree.{height}
 use Rattle.histogram.specs.Terms.{paired}
 use Rattle.histogram.specs.Restoring.{synopsisRefusal}
-use Rattle.histogram.proofs.Ascent.{ascends}
-use Rattle.histogram.proofs.Powers.{padded-bound}
 use Rattle.limits.proofs.Refusals.{first-counts, granted-nothing}
-use Rattle.histogram.proofs.Refusals.{Accepted, accepted}
-use Rattle.limits.proofs.Signed.{narrower, narrower-fits}
+use Rattle.histogram.proofs.Refusals.{accepted}
 use Rattle.histogram.proofs.restore.restore_slot.Statement.{statement}
 use Rattle.histogram.proofs.restore.restore_slot.Tie as tie
 

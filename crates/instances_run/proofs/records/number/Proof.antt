@@ -1,6 +1,6 @@
 -- `instances_run::records::number` is safe and ends. The invariant: the slice keeps its length.
 use mathlib.Core.Path.{_≡_}
-use Prim.Native.Nat.{_-_, _≤_}
+use Prim.Native.Nat.{_-_}
 use lib.ListN.{length}
 use borrow.Author.Needs.{needs}
 use Rattle.instances_run.proofs.records.number.Statement.{statement}
