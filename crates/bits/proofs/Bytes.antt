@@ -1,14 +1,14 @@
 -- Laws of `bitsOf` and `fieldAt`: eight bits a byte, one byte after another; the bits say which bytes they are, and a field's number which bits it has.
 use mathlib.Core.Path.{_≡_, refl, sym, ap, ap₂, _∙_}
 use mathlib.Core.List.{List, [], _∷_, _++_, append-assoc}
-use Prim.Native.Nat.{ℕ, zero, suc, _+_, _*_, _^_, _<_, _≤_}
+use Prim.Native.Nat.{ℕ, zero, suc, _+_, _*_, _^_, _<_}
 use native.Mathlib.Omega.{arith}
-use lib.ListN.{length, take, drop, length-append, length-drop}
-use lib.Seq.{take-nil, drop-nil, take-at, drop-at, take-append-add, drop-append-add, length-take-le}
+use lib.ListN.{length, take, drop, length-append}
+use lib.Seq.{take-nil, drop-nil, take-at, drop-at, take-append-add, drop-append-add}
 use Rattle.bits.specs.Bits.{bits, bitsOf, numberOf, fieldAt}
 use Rattle.bits.specs.Inner.{Below}
-use Rattle.bits.proofs.Numbers.{nil-below, append-below, tail-below, take-below, drop-below}
-use Rattle.bits.proofs.Fields.{length-bits, bits-below, number-of-bits, field-number-below, bits-of-number}
+use Rattle.bits.proofs.Numbers.{nil-below, append-below, tail-below, drop-below}
+use Rattle.bits.proofs.Fields.{length-bits, bits-below, number-of-bits, field-number-below}
 
 pub length-bits-of : (bytes : List ℕ) → length (bitsOf bytes) ≡ 8 * length bytes
 unfolding bitsOf
@@ -69,15 +69,6 @@ bytes-from-bits (this ∷ these) (that ∷ those) below-these below-those same =
     sym (drop-at (bits 8 this) (bitsOf these) 8 (length-bits 8 this)) ∙ ap (λ (l : List ℕ). drop 8 l) same ∙ drop-at (bits 8 that) (bitsOf those) 8 (length-bits 8 that) in
     let byte : this ≡ that = sym (number-of-bits 8 this (below-these .each 0)) ∙ ap numberOf first ∙ number-of-bits 8 that (below-those .each 0) in
     ap₂ (λ (b : ℕ) (l : List ℕ). b ∷ l) byte (bytes-from-bits these those (tail-below this these below-these) (tail-below that those below-those) more)
-
--- the bits of a field's number are the field's
-pub bits-of-field : (bytes : List ℕ) (place width : ℕ) → place + width ≤ 8 * length bytes
-    → bits width (fieldAt bytes place width) ≡ take width (drop place (bitsOf bytes))
-bits-of-field bytes place width inside =
-    let field : List ℕ = take width (drop place (bitsOf bytes)) in
-    let below : Below 2 field = take-below width (drop place (bitsOf bytes)) (drop-below place (bitsOf bytes) (bits-of-below bytes)) in
-    let wide : length field ≡ width = length-take-le width (drop place (bitsOf bytes)) (omega (arith, length-drop place (bitsOf bytes), length-bits-of bytes)) in
-    ap (λ (n : ℕ). bits n (numberOf field)) (sym wide) ∙ bits-of-number field below
 
 -- the number of a field is the one whose bits stand there
 pub field-of-laid : (bytes front rest : List ℕ) (place width number : ℕ) → length front ≡ place → number < 2 ^ width → bitsOf bytes ≡ front ++ (bits width number ++ rest)

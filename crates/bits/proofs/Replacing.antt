@@ -1,22 +1,16 @@
 -- Laws of `replacedAt`: a field written next to what is laid already is laid too, and one written within a part leaves the other parts.
-use mathlib.Core.Path.{_≡_, refl, sym, ap, ap₂, _∙_}
+use mathlib.Core.Path.{_≡_, sym, ap, ap₂, _∙_}
 use mathlib.Core.List.{List, _++_, append-assoc}
 use Prim.Native.Nat.{ℕ, _+_, _^_, _≤_, _<_}
 use native.Mathlib.Nat.{add-assoc}
 use native.Mathlib.Omega.{arith}
 use lib.ListN.{length, take, drop, length-append, length-take, length-drop}
-use lib.Seq.{take-at, drop-at, take-append-le, drop-append-le, take-append-add, drop-append-add, drop-drop, length-take-le}
+use lib.Seq.{take-at, take-append-le, drop-append-le, take-append-add, drop-append-add, drop-drop, length-take-le}
 use Rattle.bits.specs.Bits.{bits, bitsOf, fieldAt, replacedAt}
 use Rattle.bits.proofs.Bytes.{field-of-laid}
 
 pub length-replaced : (place : ℕ) (field before : List ℕ) → place + length field ≤ length before → length (replacedAt place field before) ≡ length before
 length-replaced place field before fits = simp (length-append, length-take, length-drop) (omega arith)
-
--- what stands in the field afterwards
-pub field-of-replaced : (place : ℕ) (field before : List ℕ) → place ≤ length before → take (length field) (drop place (replacedAt place field before)) ≡ field
-field-of-replaced place field before fits =
-    ap (λ (l : List ℕ). take (length field) l) (drop-at (take place before) (field ++ drop (place + length field) before) place (length-take-le place before fits))
-    ∙ take-at field (drop (place + length field) before) (length field) refl
 
 -- so a number is read back from where it was written
 pub written-reads-back : (bytes before : List ℕ) (place width number : ℕ) → place ≤ length before → number < 2 ^ width → bitsOf bytes ≡ replacedAt place (bits width number) before

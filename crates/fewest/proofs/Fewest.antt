@@ -44,8 +44,3 @@ module _ {Term : Type 0} (node value : Term → ℕ) (shape : Shape) (accepts : 
       → Made shape accepts top height rest (lookup node value terms) → Smallest node value shape accepts top height rest terms
   made-reaches-fewest some-value terms listed made =
       walk-reaches-fewest some-value terms listed (made-is-walk shape accepts top height rest (lookup node value terms) made)
-
-  -- no list that keeps has fewer terms than one with just the fewest
-  pub no-fewer-terms : (terms : List Term) → Smallest node value shape accepts top height rest terms
-      → (others : List Term) → Listed node value shape height top 0 others → Keeps shape accepts height rest (lookup node value others) → length terms ≤ length others
-  no-fewer-terms terms smallest others listed keeps = omega (arith, smallest .length-is, keeping-needs-fewest others listed keeps)

@@ -8,7 +8,7 @@ use native.Mathlib.Omega.{arith}
 use lib.Dec.{T}
 use Rattle.fewest.specs.Node.{missed, bestValue, cheapest, chosen}
 use Rattle.fewest.specs.Tree.{Shape}
-use Rattle.fewest.specs.Cost.{cost, fewest}
+use Rattle.fewest.specs.Cost.{cost}
 use Rattle.fewest.specs.Row.{Inhabited, Row}
 use Rattle.fewest.proofs.Best.{best-within, best-costs-least, best-is-first, none-chosen, best-chosen}
 use Rattle.fewest.proofs.LowerBound.{passed-not-missed, not-missed-passes}
@@ -77,12 +77,3 @@ module _ (shape : Shape) (accepts : ℕ → ℕ → Bool) (top : ℕ) where
     inside-costs = λ v within inside. omega (arith, passed-not-missed (accepts i v) inside);
     not-empty = some-value;
   }
-
-  module _ (height : ℕ) {s : ℕ} {set : ℕ → Bool} (root-row : Row top (cost shape accepts top height 1) s set) (rest : ℕ) (within : rest ≤ top) where
-    -- the fewest terms are the number of the root's row where the rest value is in its set
-    pub fewest-inside : T (set rest) → fewest shape accepts top height rest ≡ s
-    fewest-inside inside = omega (arith, row-needs root-row rest within, passed-not-missed (set rest) inside)
-
-    -- and one more where it is not
-    pub fewest-outside : T (not (set rest)) → fewest shape accepts top height rest ≡ s + 1
-    fewest-outside outside = omega (arith, row-needs root-row rest within, failed-missed (set rest) outside)

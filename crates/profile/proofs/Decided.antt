@@ -17,7 +17,7 @@ use Rattle.limits.proofs.Refusals.{none-of-two, passed, then-same, granted-same
 use Rattle.decimal.specs.Number.{readsAs}
 use Rattle.decimal.specs.Answers.{numberOr}
 use Rattle.decimal.proofs.ShortNumbers.{either-none, too-long-number}
-use Rattle.profile.specs.Text.{line, ended, following, lineNumber, numberRefusal, lineRefusal, valueRefusal, bandRefusal, isEmpty, setpointsRefusal, setpointsRead, headRefusal, setpointsText, textRefusal, restOf, bandOf, setpointsOf}
+use Rattle.profile.specs.Text.{line, ended, following, lineNumber, numberRefusal, lineRefusal, valueRefusal, bandRefusal, isEmpty, setpointsRefusal, setpointsRead, headRefusal, setpointsText, textRefusal, setpointsOf}
 use Rattle.profile.specs.Answers.{NumbersOf, TextRead}
 
 -- a front that goes past the first line has the same first line
@@ -208,13 +208,6 @@ accepted-length text right =
 
 pub accepted-is-short : (text : List ℕ) → textRefusal text ≡ 0 → take 4113 text ≡ text
 accepted-is-short text right = take-all 4113 text (omega (arith, accepted-length text right))
-
--- its rest value and its band are those of the first bytes
-pub first-bytes-rest : (text : List ℕ) → textRefusal text ≡ 0 → restOf (take 4113 text) ≡ restOf text
-first-bytes-rest text right = ap restOf (accepted-is-short text right)
-
-pub first-bytes-band : (text : List ℕ) → textRefusal text ≡ 0 → bandOf (take 4113 text) ≡ bandOf text
-first-bytes-band text right = ap bandOf (accepted-is-short text right)
 
 -- so what is read of the first bytes is the answer for the text, refused or not
 pub first-bytes-read : (text : List ℕ) {refusal : ℕ} {rest band : ℤ} {slots : ℕ} {before after : List ℤ} → TextRead (take 4113 text) refusal rest band slots before after

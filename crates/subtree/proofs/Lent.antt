@@ -5,8 +5,8 @@ use Prim.Native.Nat.{ℕ, _+_, _-_, _≤_, _<_}
 use native.Mathlib.Omega.{arith}
 use lib.IntN.{ℤ, pos}
 use lib.ListN.{length, getD, take, List·getD-append}
-use lib.Seq.{length-take-le, getD-append-add, getD-take, getD-drop}
-use borrow.Rule.Slice.PartMut.{putMid, postOf, take-put, drop-put}
+use lib.Seq.{length-take-le, getD-append-add, getD-take}
+use borrow.Rule.Slice.PartMut.{putMid, postOf, take-put}
 use Rattle.windows.specs.Scratch.{word, at}
 
 module _ (start stop : ℕ) (scratch part : List ℤ) (ordered : start ≤ stop) (inside : stop ≤ length scratch) (long : length part ≡ stop - start) where
@@ -25,11 +25,3 @@ module _ (start stop : ℕ) (scratch part : List ℤ) (ordered : start ≤ stop)
   before-part place before =
       ap word (sym (getD-take start back place (pos 0) before) ∙ ap (λ (list : List ℤ). getD list place (pos 0)) (take-put start (stop - start) scratch part (omega arith))
       ∙ getD-take start scratch place (pos 0) before)
-
-  pub after-part : (place : ℕ) → stop ≤ place → at back place ≡ at scratch place
-  after-part place after =
-      let here : stop + (place - stop) ≡ place = omega arith in
-      let same : at back (stop + (place - stop)) ≡ at scratch (stop + (place - stop)) =
-      ap word (sym (getD-drop stop back (place - stop) (pos 0)) ∙ ap (λ (list : List ℤ). getD list (place - stop) (pos 0)) (drop-put start stop scratch part ordered inside long)
-      ∙ getD-drop stop scratch (place - stop) (pos 0)) in
-      rw here at same

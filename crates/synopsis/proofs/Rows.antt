@@ -91,9 +91,6 @@ module _ {M : Type 1} (𝓤 : URA M) (H : Heap 𝓤) (A : Atoms 𝓤) (W : Given
   pub nodes-typed : (xs : List ℕ) (u : Val) → NodesAre xs u → Holds (hasTy roomTy u) × WT u
   nodes-typed = array-typed u16 tt (uint-vals w16) (uint-tells w16) 1024 𝓤 H A W (uint-makes 𝓤 H A W w16) (uint-lawful 𝓤 H A W w16)
 
-  pub nodes-made : Makes 𝓤 H A (Array u16 1024) (Is (Array u16 1024))
-  nodes-made = array-made u16 tt (uint-vals w16) (uint-tells w16) 1024 𝓤 H A W (uint-makes 𝓤 H A W w16) (uint-lawful 𝓤 H A W w16)
-
   pub nodes-row : (xs : List ℕ) (u : Val) (l : ℕ) → NodesAre xs u → ent 𝓤 (H .at fullShare roomTy l 0 u) (sem 𝓤 H A (row u16 fullShare xs l 0))
   nodes-row = row-of u16 tt (uint-vals w16) (uint-tells w16) 1024 𝓤 H A W (uint-makes 𝓤 H A W w16) (uint-lawful 𝓤 H A W w16)
 
@@ -102,9 +99,6 @@ module _ {M : Type 1} (𝓤 : URA M) (H : Heap 𝓤) (A : Atoms 𝓤) (W : Given
 
   pub values-typed : (xs : List ℤ) (u : Val) → ValuesAre xs u → Holds (hasTy roomTy u) × WT u
   values-typed = array-typed i16 tt (sint-vals w16) (sint-tells w16) 1024 𝓤 H A W (sint-makes 𝓤 H A W w16) (sint-lawful 𝓤 H A W w16)
-
-  pub values-made : Makes 𝓤 H A (Array i16 1024) (Is (Array i16 1024))
-  values-made = array-made i16 tt (sint-vals w16) (sint-tells w16) 1024 𝓤 H A W (sint-makes 𝓤 H A W w16) (sint-lawful 𝓤 H A W w16)
 
   pub values-row : (xs : List ℤ) (u : Val) (l : ℕ) → ValuesAre xs u → ent 𝓤 (H .at fullShare roomTy l 0 u) (sem 𝓤 H A (row i16 fullShare xs l 0))
   values-row = row-of i16 tt (sint-vals w16) (sint-tells w16) 1024 𝓤 H A W (sint-makes 𝓤 H A W w16) (sint-lawful 𝓤 H A W w16)

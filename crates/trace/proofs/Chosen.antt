@@ -19,7 +19,6 @@ use Rattle.claims.specs.Inner.{lowered}
 use Rattle.claims.proofs.Lifted.{lowered-within}
 use Rattle.windows.specs.Windows.{Window, covers, Sorted}
 use Rattle.windows.specs.Scratch.{at, windowsAt}
-use Rattle.windows.proofs.Reading.{windows-length}
 use Rattle.windows.proofs.Sets.{first-within, first-inside}
 use Rattle.trace.specs.Trace.{lowest, choice, handedOn, change, setAt, Answered}
 
@@ -83,9 +82,6 @@ lowest-at read place zero filled = absurd (omega arith)
 lowest-at read place (suc count) filled = refl
 
 module _ {scratch : List ℤ} {place : ℕ} (there : Answered scratch place) where
-  pub filled-there : 1 ≤ length (setAt scratch place)
-  filled-there = rw (windows-length (at scratch) (place + 2) (at scratch (place + 1))) (there .not-empty)
-
   pub lowest-there : lowest (setAt scratch place) ≡ at scratch (place + 2)
   lowest-there = lowest-at (at scratch) (place + 2) (at scratch (place + 1)) (there .not-empty)
 
