@@ -14,6 +14,7 @@ pub fn run() {
     bands();
     places();
     just_enough();
+    one_number_changed();
 }
 
 fn slots() {
@@ -87,6 +88,14 @@ fn just_enough() {
     let alternating = [0i16, 100, 0, 100];
     let mut scratch = [9i16; 12288];
     build(b"just enough", &alternating, 0, 49, 4, &mut scratch);
+}
+
+// The test of scratch sees one number that is another.
+fn one_number_changed() {
+    let scratch = [9i16, 9, 8];
+    print(b"one of three numbers changed: scratch");
+    print_kept(&scratch, 9);
+    print(b"\n");
 }
 
 // The refusal's number, the count, the greatest error, the destination's places and scratch.
