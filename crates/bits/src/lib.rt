@@ -28,6 +28,9 @@ impl BitPlace {
 
     pub const VALUE: usize = 16;
 
+    // The width of a whole term.
+    pub const TERM: usize = Self::NODE + Self::VALUE;
+
     // The first bit.
     pub fn start() -> Self
         ensures { λ r. ⌜ r .at ≡ 0 ⌝ }

@@ -73,7 +73,7 @@ module _ {profile : List ℤ} {rest : ℤ} (in-range : InRange profile rest) (fe
   pub needed-at : (band : ℕ) → needed (answer band (height (length profile)) (leaves profile room)) (lifted rest) ≡ fewestTerms profile rest band
   needed-at band = needed-is-fewest in-range band leaves-within leaves-below
 
-  -- and no more than it has (leaves profile room)
+  -- no more than the tree has leaves
   pub few-needed : (band : ℕ) → fewestTerms profile rest band ≤ padded (length profile)
   few-needed band =
       let one = answer band (height (length profile)) (leaves profile room) in

@@ -35,7 +35,7 @@ pub record TreeFits (band height value : ℕ) (setpoints : List ℤ) (nodes : Li
   pub room : (error : ℕ) → length (upperTerms error (suc height) height setpoints value) ≤ length nodes
   pub same-room : length values ≡ length nodes
 
--- the least band of as few terms as the band given, and the terms traced for it
+-- the least band that takes no more terms than the given band, and the terms traced for it
 pub record TreeBuilt (band height value : ℕ) (setpoints : List ℤ) (nodes nodes′ : List ℕ) (values values′ : List ℤ) (count error : ℕ) : Type 0 where
   pub least : LeastWithin band height value (needed (answer band height setpoints) value) setpoints error
   pub traced : Traced (upperTerms error (suc height) height setpoints value) nodes nodes′ values values′ count

@@ -1,6 +1,8 @@
 // The search for the least band of a tree whose slots all have setpoints, and building there.
 use subtree::count_terms;
 use trace::trace;
+ghost use mathlib.Core.Path.{_≡_};
+ghost use lib.ListN.{length};
 ghost use Rattle.build.specs.Inner.{Searchable, LeastWithin, TreeFits, TreeBuilt};
 
 // The least band up to `top` for which the tree needs no more terms than the budget, by halving.
@@ -13,7 +15,7 @@ pub fn least_band_within(
     height: usize,
 ) -> usize
     requires { ⌜ Searchable top height value budget (now setpoints) (now scratch) ⌝ }
-    ensures { λ r. ⌜ LeastWithin top height value budget (now (setpoints .entry)) r ⌝ }
+    ensures { λ r. ⌜ LeastWithin top height value budget (now (setpoints .entry)) r × (length (now (scratch .exit)) ≡ length (now (scratch .entry))) ⌝ }
 {
     let mut low = 0;
     let mut high = top;
@@ -46,7 +48,8 @@ pub fn build_tree(
     height: usize,
 ) -> TreeAnswer
     requires { ⌜ TreeFits band height value (now setpoints) (now nodes) (now values) (now scratch) ⌝ }
-    ensures { λ r. ⌜ TreeBuilt band height value (now (setpoints .entry)) (now (nodes .entry)) (now (nodes .exit)) (now (values .entry)) (now (values .exit)) (r .count) (r .error) ⌝ }
+    ensures { λ r. ⌜ TreeBuilt band height value (now (setpoints .entry)) (now (nodes .entry)) (now (nodes .exit)) (now (values .entry)) (now (values .exit)) (r .count) (r .error)
+        × (length (now (scratch .exit)) ≡ length (now (scratch .entry))) ⌝ }
 {
     let budget = count_terms(setpoints, band, value, scratch, height);
     let error = least_band_within(setpoints, value, budget, band, scratch, height);

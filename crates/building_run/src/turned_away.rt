@@ -1,5 +1,5 @@
 // What building and least band turn away, in document 01's order, and what lent memory holds after each call.
-// Each refusal has what would be refused after it still wrong. Every lent place holds 9 before a call.
+// In each refusal every later check would fail too, so the order shows. Every lent place holds 9 before a call.
 use crate::building::print_terms;
 use crate::print_built;
 use crate::print_found;

@@ -12,7 +12,7 @@ pub record CanKeep (profile : List ℤ) (rest : ℤ) (budget band : ℕ) : Type 
   pub synopsis : KeepingSynopsis profile rest band terms
   pub within-budget : length terms ≤ budget
 
--- the least band for a budget: a band can be kept just where it is at least this number
+-- the least band for a budget: a band can be kept exactly where it is at least this number
 pub record LeastBand (profile : List ℤ) (rest : ℤ) (budget least : ℕ) : Type 0 where
   pub enough : (band : ℕ) → least ≤ band → CanKeep profile rest budget band
   pub needed : (band : ℕ) → CanKeep profile rest budget band → least ≤ band

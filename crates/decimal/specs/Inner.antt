@@ -12,7 +12,7 @@ use Rattle.decimal.specs.Number.{isDigit, digit, isMark, leadingDigits, 
 abbrev pub inNumber : ℕ → Bool
 inNumber byte = isDigit byte || isMark byte || eqb byte 45
 
--- the number that some bytes begin with, and how many of them it takes; a count beyond the bytes says that there is none. Where the bytes end, or one follows that is none of a number's, those before mean that number or nothing
+-- the number that some bytes begin with, and how many bytes it takes; a count beyond the bytes says that there is none. A part in front that ends before a byte of no number, or with the bytes, is that number or no number at all
 pub record FrontRead {A : Type 0} (meant : List ℕ → Option A) (bytes : List ℕ) (number : A) (count : ℕ) : Type 0 where
   pub in-reach : count ≤ length bytes + 1
   pub whole : count ≤ length bytes → meant (take count bytes) ≡ some number

@@ -1,5 +1,5 @@
 -- A node of the tree occurs once in it: the marks of a node n, 1 at n and 0 elsewhere, sum up to 1 over the tree.
--- By induction on the height: the children of i hold n just where i is the node above n, so a subtree's sum counts how often its root is on n's path.
+-- By induction on the height: the children of i hold n exactly where i is the node above n, so a subtree's sum counts how often its root is on n's path.
 use mathlib.Core.Path.{_≡_, refl, sym, ap, _∙_, subst}
 use mathlib.Core.Logic.{_≢_}
 use mathlib.Core.Bool.{Bool, true, false}
@@ -49,7 +49,7 @@ mark-of-other n i unequal = split (marked n i)
     split (other differs) = refl
 
 module _ (shape : Shape) where
-  -- n is among the children of i just where i is the node above n
+  -- n is among the children of i exactly where i is the node above n
   kids-marked : (n i : ℕ) → 1 ≤ i → total (shape .arity) (λ c. mark n (shape .kid i c)) ≡ mark (shape .par n) i
   kids-marked n i node = split (marked (shape .par n) i)
     where

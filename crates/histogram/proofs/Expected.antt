@@ -1,5 +1,5 @@
 -- What a reader expects of `restored` and of the errors: a slot's own term is its value, no term at all leaves the rest value,
--- a term at the root alone reaches every slot, and a synopsis keeps a band just where its greatest error is within it.
+-- a term at the root alone reaches every slot, and a synopsis keeps a band exactly where its greatest error is within it.
 use mathlib.Core.Path.{_≡_, refl, ap, _∙_}
 use mathlib.Core.List.{List, [], _∷_, List·Memᴰ, List·Memᴰ·head, List·Memᴰ·tail}
 use mathlib.Core.Logic.{⊎-elim}
@@ -87,7 +87,7 @@ each-within f (suc count) k below =
     (below-or-not k count)
 
 module _ (profile : List ℤ) (rest : ℤ) (terms : List Term) (band : ℕ) where
-  -- a synopsis keeps a band just where its greatest error is within the band
+  -- a synopsis keeps a band exactly where its greatest error is within the band
   pub keeps-greatest : Keeps profile rest terms band → greatestError profile rest terms ≤ band
   keeps-greatest keeps = greatest-bound (slotError profile rest terms) (padded (length profile)) band (keeps .every-slot)
 

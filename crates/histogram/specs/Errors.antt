@@ -1,5 +1,5 @@
 -- Errors and the band: document 01, "The setpoint in a slot". For the auditor.
--- `proofs/Expected.antt` shows that a synopsis keeps a band just where its greatest error is within it: `keeps-greatest`, `greatest-keeps`.
+-- `proofs/Expected.antt` shows that a synopsis keeps a band exactly where its greatest error is within it: `keeps-greatest`, `greatest-keeps`.
 use mathlib.Core.List.{List}
 use Prim.Native.Nat.{ℕ, zero, suc, _-_, _≤_, _<_, min, max}
 use lib.IntN.{ℤ, pos, _-ℤ_, natAbs}

@@ -56,7 +56,7 @@ fn written() {
     write(4, 25, 1400, &nodes, &values);
 }
 
-// Each refusal with what would be refused after it still wrong.
+// In each refusal every later check would fail too, so the order shows.
 fn refused_headers() {
     let nodes = [8u16, 8];
     let values = [1i16, 1];
@@ -190,7 +190,7 @@ fn checks() {
     check(b"errors above the band", &above, &bytes);
 }
 
-// Each refusal with what would be refused after it still wrong.
+// In each refusal every later check would fail too, so the order shows.
 fn refused_checks() {
     let bytes = RECORD;
     let three = [1410i16, 1390, 2000];

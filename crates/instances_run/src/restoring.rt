@@ -27,7 +27,7 @@ fn document() {
     profile(4, 1400, &nodes, &values);
 }
 
-// Each refusal with what would be refused after it still wrong.
+// In each refusal every later check would fail too, so the order shows.
 fn refused() {
     let nodes = [3u16, 3];
     let values = [1i16, 2];

@@ -21,6 +21,11 @@ pub then-same : (first : ℕ) {later later′ : ℕ} → (first ≡ 0 → later 
 then-same zero same = same refl
 then-same (suc first) same = refl
 
+-- where nothing comes later, the first refusal is the answer
+pub then-none : (first : ℕ) {later : ℕ} → (first ≡ 0 → later ≡ 0) → first then later ≡ first
+then-none zero none = none refl
+then-none (suc first) none = refl
+
 pub granted-same : {A : Type 0} (refusal : ℕ) {result result′ : A} (nothing : A) → (refusal ≡ 0 → result ≡ result′) → granted refusal result nothing ≡ granted refusal result′ nothing
 granted-same zero nothing same = same refl
 granted-same (suc refusal) nothing same = refl

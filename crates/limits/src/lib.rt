@@ -53,7 +53,7 @@ pub fn is_outside_band(band: i32) -> bool
     40000 < band
 }
 
-// Whether a number of slots is none of a profile: 0 or more than 512.
+// Whether no profile has that many slots: 0, or more than 512.
 pub fn is_outside_slots(slots: usize) -> bool
     ensures { λ r. ⌜ r ≡ outsideSlots slots ⌝ }
 {

@@ -103,7 +103,7 @@ fn read_record(bytes: &[u8], times: u8) {
     print_sum(&nodes);
 }
 
-// Restores the record's sum slot that often; the sum of the refusals is printed.
+// Restores slot 511 of the record that often; the sum of the refusals is printed.
 fn read_slot(bytes: &[u8], times: u8) {
     let mut refusals: u64 = 0;
     let mut done = 0;

@@ -1,3 +1,4 @@
+pub mod Longest
 pub mod Texts
 pub mod Packing
 pub mod Records

@@ -69,11 +69,11 @@ pub extern "C" fn panel_record_against_text(bytes: &[u8], text: &[u8]) -> u64
     ensures { λ r. ⌜ r ≡ againstTextResult (now (bytes .entry)) (now (text .entry)) ⌝ }
 {
     let mut setpoints = [0i16; 512];
-    let read = read_text(text, &mut setpoints);
-    if 0 < read.refusal {
-        return pack(read.refusal as u64, 0, 0, 0);
+    let profile = read_text(text, &mut setpoints);
+    if 0 < profile.refusal {
+        return pack(profile.refusal as u64, 0, 0, 0);
     }
-    let slots = read.slots;
+    let slots = profile.slots;
     let answer = check_record(&setpoints[..slots], bytes);
     pack(
         answer.refusal as u64,

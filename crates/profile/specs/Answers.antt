@@ -14,7 +14,7 @@ pub record NumbersOf (text : List ℕ) (refusal : ℕ) (rest band : ℤ) (slots 
   pub band-is : band ≡ granted refusal (bandOf text) (pos 0)
   pub slots-is : slots ≡ granted refusal (length (setpointsOf text)) 0
 
--- a text read into room for 512 setpoints, as the calls take it that have no destination to refuse; on a refusal the room holds the setpoints of the lines before it
+-- a text read into room for 512 setpoints, for the calls that have no destination of the caller's; on a refusal the room holds the setpoints of the lines before it
 pub record TextRead (text : List ℕ) (refusal : ℕ) (rest band : ℤ) (slots : ℕ) (before after : List ℤ) : Type 0 where
   pub refusal-is : refusal ≡ textRefusal text
   pub numbers : NumbersOf text refusal rest band slots

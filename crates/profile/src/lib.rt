@@ -35,7 +35,7 @@ pub fn read_profile(text: &[u8], destination: &mut [i16]) -> TextAnswer
     answer
 }
 
-// Reads a profile text into room for every setpoint that it can have: the reading of the calls that have no destination to refuse.
+// Reads a profile text into room for 512 setpoints, for the calls that have no destination of the caller's: they never refuse with 6.
 pub fn read_text(text: &[u8], setpoints: &mut [i16]) -> TextAnswer
     requires { ⌜ 512 ≤ length (now setpoints) ⌝ }
     ensures { λ r. ⌜ TextRead (now (text .entry)) (r .refusal) (r .rest) (r .band) (r .slots) (now (setpoints .entry)) (now (setpoints .exit)) ⌝ }

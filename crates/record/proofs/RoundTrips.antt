@@ -69,7 +69,7 @@ unfolding termsFrom
 length-from zero field = refl
 length-from (suc count) field = ap suc (length-from count (drop 26 field))
 
--- the terms that bits write write those bits
+-- terms that were read from bits are written as those bits
 terms-written : (count : ℕ) (field : List ℕ) → Below 2 field → 26 * count ≤ length field → termsBits (termsFrom count field) ++ drop (26 * count) field ≡ field
 unfolding termsBits termsFrom
 terms-written zero field all-bits inside = refl

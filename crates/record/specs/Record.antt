@@ -67,6 +67,6 @@ termsIn bytes = termsFrom (countIn bytes) (drop 55 (bitsOf bytes))
 abbrev pub fillIn : List ℕ → ℕ
 fillIn bytes = numberOf (drop (55 + 26 * countIn bytes) (bitsOf bytes))
 
--- none of row 7: 7 bytes or more, version 1, the byte count of its terms, and a fill of zeros
+-- passes row 7: 7 bytes or more, version 1, the byte count of its terms, and a fill of zeros
 abbrev pub wellFormed : List ℕ → Bool
 wellFormed bytes = leb 7 (length bytes) && (eqb (versionIn bytes) 1 && (eqb (length bytes) (recordLength (countIn bytes)) && eqb (fillIn bytes) 0))

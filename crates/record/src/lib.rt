@@ -1,7 +1,7 @@
 // The record's layout: how long it is and where its fields stand. Its definition is in specs/Record.antt.
 use bits::BitPlace;
 ghost use mathlib.Core.Path.{_≡_};
-ghost use Prim.Native.Nat.{_≤_};
+ghost use Prim.Native.Nat.{_+_, _*_, _≤_};
 ghost use Rattle.record.specs.Record.{recordLength};
 ghost use Rattle.record.specs.Inner.{PlacesAre};
 
@@ -37,4 +37,12 @@ pub fn places() -> FieldPlaces
         count: count,
         terms: terms,
     }
+}
+
+// The place after the last of that many terms.
+pub fn after_terms(count: usize) -> BitPlace
+    requires { ⌜ count ≤ 1023 ⌝ }
+    ensures { λ r. ⌜ r .at ≡ 55 + 26 * count ⌝ }
+{
+    places().terms.after(BitPlace::TERM * count)
 }

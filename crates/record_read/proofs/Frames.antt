@@ -1,4 +1,4 @@
--- The frame of a record: which bytes are none of row 7, and the header's refusals after it.
+-- The frame of a record: which bytes pass row 7, and the header's refusals after it.
 use mathlib.Core.Path.{_≡_, refl, sym, ap, _∙_}
 use mathlib.Core.Bool.{true, false, and-false, false≢true}
 use mathlib.Core.List.{List}

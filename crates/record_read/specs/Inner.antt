@@ -13,7 +13,7 @@ use Rattle.histogram.specs.Terms.{nodesOf, valuesOf}
 use Rattle.record.specs.Record.{recordLength, slotsIn, bandIn, restIn, countIn, termsFrom, termsIn, wellFormed}
 use Rattle.record.specs.Answers.{headerRefusal, recordRefusal, HeaderOf}
 
--- a record read into room for 1,023 terms, as the calls take it that have no destination to refuse; the room holds the terms where the header is not refused
+-- a record read into room for 1,023 terms, for the calls that have no destination of the caller's; the room holds the terms where the header is not refused
 pub record RoomRead (bytes : List ℕ) (refusal slots : ℕ) (band rest : ℤ) (count : ℕ) (nodes nodes′ : List ℕ) (values values′ : List ℤ) : Type 0 where
   pub refusal-is : refusal ≡ recordRefusal bytes
   pub header : HeaderOf bytes refusal slots band rest count
@@ -25,7 +25,7 @@ pub record Room (nodes : List ℕ) (values : List ℤ) : Type 0 where
   pub of-nodes : 1023 ≤ length nodes
   pub of-values : 1023 ≤ length values
 
--- whether a record is none of row 7, and its count of terms where it is
+-- whether a record passes row 7, and its count of terms where it does
 pub record FrameRead (bytes : List ℕ) (right : Bool) (count : ℕ) : Type 0 where
   pub right-is : right ≡ wellFormed bytes
   pub count-is : right ≡ true → count ≡ countIn bytes

@@ -2,6 +2,7 @@
 use bits::BitPlace;
 use histogram::terms::is_valid;
 use histogram::terms::padded_length;
+use record::after_terms;
 use record::places;
 use record::record_length;
 ghost use mathlib.Core.Path.{_≡_};
@@ -40,7 +41,7 @@ pub fn read_record(bytes: &[u8], nodes: &mut [u16], values: &mut [i16]) -> Heade
     header
 }
 
-// Reads a record into room for every term that it can have: the reading of the calls that have no destination to refuse.
+// Reads a record into room for 1,023 terms, for the calls that have no destination of the caller's: they never refuse with 6.
 pub fn read_into_room(bytes: &[u8], nodes: &mut [u16], values: &mut [i16]) -> HeaderAnswer
     requires { ⌜ Room (now nodes) (now values) ⌝ }
     ensures { λ r. ⌜ RoomRead (now (bytes .entry)) (r .refusal) (r .slots) (r .band) (r .rest) (r .count) (now (nodes .entry)) (now (nodes .exit)) (now (values .entry)) (now (values .exit)) ⌝ }
@@ -69,7 +70,7 @@ fn read_header(bytes: &[u8]) -> HeaderAnswer
     refused(7)
 }
 
-// Whether a record is none of row 7, and its count of terms.
+// Whether a record passes row 7, and its count of terms.
 struct Frame {
     pub right: bool,
     pub count: usize,
@@ -109,9 +110,8 @@ fn read_fill(bytes: &[u8], count: usize) -> u16
     requires { ⌜ Framed (now bytes) count ⌝ }
     ensures { λ r. ⌜ r ≡ fillAfter count (now (bytes .entry)) ⌝ }
 {
-    let used = 55 + 26 * count;
-    let place = BitPlace { at: used };
-    place.read(8 * bytes.len() - used, bytes)
+    let place = after_terms(count);
+    place.read(8 * bytes.len() - place.at, bytes)
 }
 
 // The fields of a header whose frame is right, with the refusals 2 and 3.

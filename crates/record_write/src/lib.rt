@@ -3,6 +3,7 @@
 use bits::BitPlace;
 use histogram::terms::is_valid;
 use histogram::terms::padded_length;
+use record::after_terms;
 use record::places;
 use record::record_length;
 ghost use mathlib.Core.Path.{_≡_};
@@ -134,8 +135,7 @@ fn put_fill(count: usize, bytes: &mut [u8])
     requires { ⌜ FillFits count (now bytes) ⌝ }
     ensures { λ _. ⌜ bitsOf (now (bytes .exit)) ≡ filled (55 + 26 * count) (bitsOf (now (bytes .entry))) ⌝ }
 {
-    let used = 55 + 26 * count;
+    let place = after_terms(count);
     let end = 8 * bytes.len();
-    let place = BitPlace { at: used };
-    place.write(end - used, 0, bytes);
+    place.write(end - place.at, 0, bytes);
 }

@@ -1,4 +1,4 @@
-// Building into a slice of terms. Each refusal has what would be refused after it still wrong. Every lent place holds 9 before a call.
+// Building into a slice of terms. In each refusal every later check would fail too, so the order shows. Every lent place holds 9 before a call.
 use crate::calls;
 use crate::lists::no_terms;
 use crate::print_built;

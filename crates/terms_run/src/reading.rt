@@ -1,4 +1,4 @@
-// Records read into a slice of terms. Each refusal has what would be refused after it still wrong. Every place of the destination holds 9:9 before a call.
+// Records read into a slice of terms. In each refusal every later check would fail too, so the order shows. Every place of the destination holds 9:9 before a call.
 use crate::calls::read_record;
 use crate::end_with_terms;
 use crate::lists::no_terms;

@@ -1,4 +1,4 @@
-// Setpoints restored from slices of terms. Each refusal has what would be refused after it still wrong.
+// Setpoints restored from slices of terms. In each refusal every later check would fail too, so the order shows.
 use crate::calls::restore_profile;
 use crate::calls::restore_slot;
 use crate::lists::every_node;

@@ -1,4 +1,4 @@
-// Records written from slices of terms. Each refusal has what would be refused after it still wrong.
+// Records written from slices of terms. In each refusal every later check would fail too, so the order shows.
 use crate::calls::write_record;
 use crate::lists::every_node;
 use crate::lists::one_term;

@@ -61,7 +61,7 @@ returns c =
     let value = rw (toZ-ofZ (start .fits .rest)) at (c .before .before .before .before .before .before .before .before .before .before .lift .ensures .0) in
     let built = c .before .before .before .before .before .build-tree in
     best-built (args .setpoints .now) (args .rest) (args .band) (args .nodes .now) (args .values .now) (args .scratch .now) (start .pre) (filled .last .1 .0) (omega (arith, filled .kept .1 .0)) (filled .ensures) (built .last .1 .1 .1 .0) (built .last .1 .1 .1 .1 .0) (built .result .count) (built .result .error)
-    (rw (size .ensures .0, size .ensures .1, value) at (built .ensures))
+    (rw (size .ensures .0, size .ensures .1, value) at (built .ensures .0))
 
 pub build-best-spec : {M : Type 1} → statement M
 build-best-spec =

@@ -54,7 +54,7 @@ returns c =
     let size = c .before .before .before .before .before .tree-over in
     let value = rw (toZ-ofZ (start .fits .rest)) at (c .before .before .before .before .lift .ensures .0) in
     let found = c .before .least-band-within in
-    least-found (args .setpoints .now) (args .rest) (args .budget) (args .scratch .now) (start .pre) (filled .last .1 .0) (omega (arith, filled .kept .1 .0)) (filled .ensures) (found .result) (rw (size .ensures .0, size .ensures .1, value) at (found .ensures))
+    least-found (args .setpoints .now) (args .rest) (args .budget) (args .scratch .now) (start .pre) (filled .last .1 .0) (omega (arith, filled .kept .1 .0)) (filled .ensures) (found .result) (rw (size .ensures .0, size .ensures .1, value) at (found .ensures .0))
 
 pub least-band-of-spec : {M : Type 1} → statement M
 least-band-of-spec =

@@ -10,11 +10,8 @@ use borrow.Author.Needs.{needs}
 use Rattle.record_read.proofs.read_fill.Statement.{statement}
 use Rattle.record_read.proofs.read_fill.Tie as tie
 
-mul-used : tie.Need-mul-used
-mul-used c = search needs
-
-add-used : tie.Need-add-used
-add-used c = search needs
+after-terms-requires : tie.Need-after-terms-requires
+after-terms-requires c κs = search needs
 
 mul-read : tie.Need-mul-read
 mul-read c = search needs
@@ -27,9 +24,11 @@ read-requires c κs = search needs
 
 returns : tie.Need-returns
 returns c =
-    let bytes = c .before .before .args .bytes .now in
-    let used = 55 + 26 * c .before .before .args .count in
-    c .read .ensures ∙ ap numberOf (take-all (8 * length bytes - used) (drop used (bitsOf bytes)) (simp length-drop (omega (arith, length-bits-of bytes))))
+    let start = c .before .before .before .before in
+    let bytes = start .args .bytes .now in
+    let used = 55 + 26 * start .args .count in
+    rw (c .before .before .after-terms .ensures) at (c .read .ensures)
+    ∙ ap numberOf (take-all (8 * length bytes - used) (drop used (bitsOf bytes)) (simp length-drop (omega (arith, length-bits-of bytes))))
 
 pub read-fill-spec : {M : Type 1} → statement M
-read-fill-spec = tie.close (tie.spec mul-used add-used mul-read sub-read read-requires returns)
+read-fill-spec = tie.close (tie.spec after-terms-requires mul-read sub-read read-requires returns)

@@ -22,11 +22,8 @@ zeros-to-end bytes used inside =
     let as-many : left ≡ length (bitsOf bytes) - used = omega (arith, length-bits-of bytes) in
     rw (drop-of-length-le (bitsOf bytes) all, append-nil (bits left 0), bits-of-zero left, as-many)
 
-mul-used : tie.Need-mul-used
-mul-used c = search needs
-
-add-used : tie.Need-add-used
-add-used c = search needs
+after-terms-requires : tie.Need-after-terms-requires
+after-terms-requires c κs = search needs
 
 mul-end : tie.Need-mul-end
 mul-end c = search needs
@@ -42,9 +39,10 @@ same-length c = search needs
 
 returns : tie.Need-returns
 returns c =
-    let start = c .before .before .before .before .before in
-    c .before .before .write .ensures ∙ zeros-to-end (start .args .bytes .now) (55 + 26 * start .args .count) (search needs)
+    let start = c .before .before .before .before .before .before .before in
+    let placed = c .before .before .before .before .before .after-terms .ensures in
+    rw placed at (c .before .before .write .ensures) ∙ zeros-to-end (start .args .bytes .now) (55 + 26 * start .args .count) (search needs)
 
 pub put-fill-spec : {M : Type 1} → statement M
 put-fill-spec =
-    tie.close (tie.spec mul-used add-used mul-end sub-write write-requires same-length returns)
+    tie.close (tie.spec after-terms-requires mul-end sub-write write-requires same-length returns)

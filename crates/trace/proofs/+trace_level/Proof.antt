@@ -1,4 +1,4 @@
--- `trace::trace_level` meets its contract. The measure is the depth.
+-- `trace::trace_level` meets its contract. The measure is the height.
 use mathlib.Core.Path.{_≡_, sym, _∙_}
 use Prim.Native.Nat.{ℕ, suc, _-_, _≤_, _<_}
 use native.Mathlib.Omega.{arith}
@@ -18,7 +18,7 @@ use Rattle.trace.proofs.+trace_level.{statement}
 use Rattle.trace.proofs.+trace_level.Tie.{close}
 
 abbrev μ-trace-level : Measures 3 trace-level-kinds.ps ℕ
-μ-trace-level κs a = a .1 .1 .0
+μ-trace-level κs a = a .1 .0
 
 abbrev at-measure : ℕ → In 3 trace-level-kinds.ps
 at-measure t = and 3 trace-level-kinds.ps (is 3 trace-level-kinds.ps μ-trace-level t) trace-level.Pre
@@ -48,6 +48,12 @@ module _ (t : ℕ) where
 
   last : (c : lts.After-hand-down (calls t) (at-measure t) trace-level.Post) → c .before .before .before .before .before .args .depth ≤ 2 → Descends c 1
   last c least = descent c 1 (omega (arith, c .before .before .before .before .before .pre .1 .0))
+
+  -- the height falls: a level that is below a node is no further down than the node is high
+  falling : (c : lts.After-hand-down (calls t) (at-measure t) trace-level.Post) → 2 < c .before .before .before .before .before .args .depth → c .before .before .before .before .before .args .height - 1 < t
+  falling c more =
+      let start = c .before .before .before .before .before in
+      omega (arith, start .pre .0, start .pre .1 .1 .in-subtree)
 
   load-requires : lts.Need-load-requires (calls t) (at-measure t) trace-level.Post
   load-requires c κs = omega (arith, answered (c .before .pre .1 .1 .stretch) .room)
@@ -88,7 +94,7 @@ module _ (t : ℕ) where
   trace-level-requires c κs =
       let handed = c .before .before .before .before in
       let more = c .before .before .before .if2 .taken in
-      (omega arith, (omega arith, left-fits (further handed (omega arith)) (omega arith)))
+      (falling handed (omega arith), (omega arith, left-fits (further handed (omega arith)) (omega arith)))
 
   mul-trace-level-3 : lts.Need-mul-trace-level-3 (calls t) (at-measure t) trace-level.Post
   mul-trace-level-3 c = search needs
@@ -119,7 +125,7 @@ module _ (t : ℕ) where
       let left = c .before .before .before .before .before .before in
       let handed = left .before .before .before .before .before in
       let more = left .before .before .before .before .if2 .taken in
-      (omega arith, (omega arith, right-fits (further handed (omega arith)) (omega arith) (left .trace-level .ensures)))
+      (falling handed (omega arith), (omega arith, right-fits (further handed (omega arith)) (omega arith) (left .trace-level .ensures)))
 
   mul-trace-children : lts.Need-mul-trace-children (calls t) (at-measure t) trace-level.Post
   mul-trace-children c = search needs

@@ -44,8 +44,11 @@ returns c =
     let found = c .before .before .before .before .before .before .before .before .before .before .before .least-band-within in
     let again = c .before .before .before .before .before .before .before .before .count-terms2 in
     let traced = c .before .before .before .trace in
-    tree-built (args .band) (args .height) (args .value) (args .setpoints .now) (args .nodes .now) (args .values .now) (args .scratch .now) (start .pre) (counted .last .1 .1 .1 .0) (again .last .1 .1 .1 .0) (counted .result) (found .result) (again .result) (traced .result) (traced .last .1 .1 .1 .0) (traced .last .1 .1 .1 .1 .0)
-    (counted .ensures) (found .ensures) (again .ensures) (traced .ensures)
+    (
+      tree-built (args .band) (args .height) (args .value) (args .setpoints .now) (args .nodes .now) (args .values .now) (args .scratch .now) (start .pre) (counted .last .1 .1 .1 .0) (again .last .1 .1 .1 .0) (counted .result) (found .result) (again .result) (traced .result) (traced .last .1 .1 .1 .0) (traced .last .1 .1 .1 .1 .0)
+      (counted .ensures) (found .ensures .0) (again .ensures) (traced .ensures),
+      again .kept .1 .1 .1 .0 ∙ found .kept .1 .1 .1 .1 .0 ∙ counted .kept .1 .1 .1 .0,
+    )
 
 pub build-tree-spec : {M : Type 1} → statement M
 build-tree-spec =

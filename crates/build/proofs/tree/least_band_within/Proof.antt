@@ -59,7 +59,7 @@ returns : tie.Need-returns Inv-loop μ-loop
 returns c =
     let args = c .before .before .args in
     let loop = c .before .loop in
-    search-ends (args .height) (args .value) (args .budget) (args .top) (args .setpoints .now) (args .scratch .now) (loop .scratch) (loop .low) (loop .high) (loop .inv) (omega arith)
+    (search-ends (args .height) (args .value) (args .budget) (args .top) (args .setpoints .now) (args .scratch .now) (loop .scratch) (loop .low) (loop .high) (loop .inv) (omega arith), loop .inv .same-length)
 
 pub least-band-within-spec : {M : Type 1} → statement M
 least-band-within-spec =

@@ -1,4 +1,4 @@
--- `decimal::read::digit_of` meets its contract: the difference from `0` is below 10 just where the byte is a digit.
+-- `decimal::read::digit_of` meets its contract: the difference from `0` is below 10 exactly where the byte is a digit.
 use mathlib.Core.Path.{_≡_, refl}
 use mathlib.Core.Bool.{Bool, true, false, _&&_}
 use Prim.Native.Nat.{ℕ, _+_, _-_, _%_, _≤_, _<_, _^_}

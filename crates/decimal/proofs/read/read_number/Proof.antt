@@ -1,4 +1,4 @@
--- `decimal::read::read_number` meets its contract: the field is a number just where the one at its front ends with it.
+-- `decimal::read::read_number` meets its contract: the field is a number exactly where the one at its front ends with it.
 use mathlib.Core.Path.{_≡_, sym}
 use mathlib.Core.Bool.{false}
 use mathlib.Core.List.{List}

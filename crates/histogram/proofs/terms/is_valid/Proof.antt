@@ -1,4 +1,4 @@
--- `histogram::terms::is_valid` meets its contract. The invariant: the list is valid just where the terms from i on are, above the last node seen.
+-- `histogram::terms::is_valid` meets its contract. The invariant: the list is valid exactly where the terms from i on are, above the last node seen.
 use mathlib.Core.Path.{_≡_, refl, sym, _∙_}
 use mathlib.Core.Bool.{not, _&&_}
 use Prim.Native.Nat.{suc, _-_, _≤_}
@@ -35,7 +35,7 @@ shared-slice-read-node c = search needs
 cast-node : tie.Need-cast-node Inv-loop μ-loop
 cast-node c = omega (arith, c .shared-slice-known2 .given (c .before .before .loop .i))
 
--- in a turn, the list is valid just where the term at i is right and the terms after it are valid above it
+-- in a turn, the list is valid exactly where the term at i is right and the terms after it are valid above it
 turn : (c : tie.In-loop Inv-loop μ-loop)
     → let args = c .before .before .before .args in
     let loop = c .before .loop in
