@@ -9,7 +9,7 @@
  *
  * What the caller owes:
  * - every pointer is valid for the length beside it, and not null, also where that length is 0;
- * - no length is above PTRDIFF_MAX;
+ * - no length is above PTRDIFF_MAX, and size_t is 64 bits wide: where it is not, the compiler stops below;
  * - the bytes that panel_text_to_record may write do not overlap the text;
  * - 40 KiB of stack below the call; bench/run measures what each call takes.
  *
@@ -20,6 +20,11 @@
 
 #include <stddef.h>
 #include <stdint.h>
+
+/* The library takes every length in 64 bits: with another size_t a call would link, and answer wrongly. */
+#if SIZE_MAX != UINT64_MAX
+#error "panel.h: size_t must be 64 bits wide, as it is on the machine that the library is compiled for (x86-64)"
+#endif
 
 #ifdef __cplusplus
 extern "C" {
@@ -40,7 +45,7 @@ extern "C" {
 /* A record made elsewhere has at most 1,023 terms: 3,332 bytes. */
 #define PANEL_MOST_RECORD_BYTES PANEL_RECORD_BYTES(1023)
 
-/* The panel's own records have at most 512 terms: 1,671 bytes are never too few. */
+/* The panel's own records have at most 512 terms: 1,671 bytes are never too few (`longest-fits`, crates/panel/proofs/Longest.antt). */
 #define PANEL_MOST_BUILT_BYTES PANEL_RECORD_BYTES(PANEL_MOST_SLOTS)
 
 enum panel_refusal {

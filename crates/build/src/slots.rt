@@ -28,7 +28,7 @@ pub fn tree_over(slots: usize) -> TreeSize
 
 // Puts the setpoint of each slot at its place; slots past the last setpoint carry it.
 pub fn fill(setpoints: &[i16], room: &mut [i16])
-    requires { ⌜ 1 ≤ length (now setpoints) ⌝ }
+    requires { ⌜ (1 ≤ length (now setpoints)) × (length (now setpoints) ≤ length (now room)) ⌝ }
     ensures { λ _. ⌜ Filled (now (setpoints .entry)) (now (room .exit)) ⌝ }
 {
     let last = setpoints.len() - 1;

@@ -2,10 +2,11 @@
 
 use crate::coverage::Coverage;
 use crate::document::calls::{Answer, Call, Document, packed};
-use crate::document::record::read_record;
+use crate::document::printed::{firing, refused, terms_named};
+use crate::document::record::{Record, byte_count, read_record};
 use crate::document::synopsis::{Verdict, check};
-use crate::document::text::read_text;
-use crate::library;
+use crate::document::text::{Profile, read_text};
+use crate::{library, program};
 use std::fmt::{Debug, Display};
 
 /// Bytes on either side of a lent destination that are watched too.
@@ -67,6 +68,27 @@ impl Comparison {
         };
         self.built(call, text, &memory[record.clone()], results);
         (parts, Some(memory[record].to_vec()))
+    }
+
+    /// What the program `fire` prints for a text, whole. Which best synopsis it prints stays open: its terms are taken
+    /// from its lines, and held to what is true of each.
+    pub fn fire(&mut self, text: &[u8]) -> String {
+        let call = Call::TextToRecord { text, destination: byte_count(1_023) };
+        let printed = program::fire(text);
+        let answer = self.document.answer(call);
+        self.coverage.note_firing(answer);
+        let expected = match (answer, read_text(text)) {
+            (Ok(results), Ok(Profile { rest, band, setpoints })) => {
+                let record = Record { slots: setpoints.len(), band, rest, terms: terms_named(&printed) }.bytes();
+                self.built(call, text, &record, results);
+                let terms = read_record(&record).map_or(Vec::new(), |record| record.terms);
+                firing(&Profile { rest, band, setpoints }, &terms, i32::from(results[2]))
+            }
+            (Ok(_), Err(refusal)) | (Err(refusal), _) => refused(refusal),
+        };
+        let printed = String::from_utf8_lossy(&printed).into_owned();
+        self.same("what fire prints", &call, expected, printed.clone());
+        printed
     }
 
     /// Compares the library's answer to a call and counts the outcome.

@@ -1,8 +1,12 @@
-//! Which outcomes each of the four calls has shown, counted by name; a run that misses one that document 01 allows has failed.
+//! Which outcomes each of the four calls and the program `fire` have shown, counted by name; a run that misses one that document 01 allows has failed.
 
 use crate::document::calls::{Answer, Call};
 use crate::document::refusal::{ALL, Calls, Refusal};
 use std::collections::HashMap;
+
+const AGAINST_TEXT: Calls = [false, false, true, false, false];
+/// The last column.
+const FIRE: usize = 4;
 
 #[derive(Clone, Copy, PartialEq, Eq, Hash)]
 enum Outcome {
@@ -28,10 +32,10 @@ impl Outcome {
 
     fn row(self) -> (u16, Calls, &'static str) {
         match self {
-            Outcome::Answered => (0, [true, true, false, true], "answered"),
-            Outcome::Kept => (0, [false, false, true, false], "kept"),
-            Outcome::NotKept => (0, [false, false, true, false], "not kept, first in a slot of the profile"),
-            Outcome::NotKeptInFiller => (0, [false, false, true, false], "not kept, first in a filler slot"),
+            Outcome::Answered => (0, [true, true, false, true, true], "answered"),
+            Outcome::Kept => (0, AGAINST_TEXT, "kept"),
+            Outcome::NotKept => (0, AGAINST_TEXT, "not kept, first in a slot of the profile"),
+            Outcome::NotKeptInFiller => (0, AGAINST_TEXT, "not kept, first in a filler slot"),
             Outcome::Refused(refusal) => refusal.row(),
         }
     }
@@ -58,7 +62,7 @@ fn column(call: Call) -> usize {
 
 #[derive(Default)]
 pub struct Coverage {
-    met: HashMap<Outcome, [u64; 4]>,
+    met: HashMap<Outcome, [u64; 5]>,
 }
 
 impl Coverage {
@@ -66,14 +70,19 @@ impl Coverage {
         self.met.entry(Outcome::of(call, answer)).or_default()[column(call)] += 1;
     }
 
-    fn counts(&self, outcome: Outcome) -> [u64; 4] {
+    /// The outcome of a firing, by the answer that building the same text has.
+    pub fn note_firing(&mut self, answer: Answer) {
+        self.met.entry(answer.map_or_else(Outcome::Refused, |_| Outcome::Answered)).or_default()[FIRE] += 1;
+    }
+
+    fn counts(&self, outcome: Outcome) -> [u64; 5] {
         self.met.get(&outcome).copied().unwrap_or_default()
     }
 
     /// The table of counts; a dash where document 01 gives the call no such outcome.
     pub fn print(&self) {
-        println!("{:46}{:>9}{:>9}{:>9}{:>9}", "", "to", "one", "against", "least");
-        println!("{:46}{:>9}{:>9}{:>9}{:>9}", "outcome", "record", "slot", "text", "band");
+        println!("{:46}{:>9}{:>9}{:>9}{:>9}{:>9}", "", "to", "one", "against", "least", "");
+        println!("{:46}{:>9}{:>9}{:>9}{:>9}{:>9}", "outcome", "record", "slot", "text", "band", "fire");
         for outcome in Outcome::all() {
             let (number, calls, words) = outcome.row();
             let cells = calls.iter().zip(self.counts(outcome));

@@ -1,4 +1,5 @@
-//! The second program: document 01 written anew from the paper alone, and compared with the library for C on many inputs.
+//! The second program: document 01 written anew from the paper alone, and compared with the library for C and with the
+//! program `fire` on many inputs.
 
 mod comparison;
 mod coverage;
@@ -6,6 +7,7 @@ mod document;
 mod groups;
 mod inputs;
 mod library;
+mod program;
 
 use comparison::Comparison;
 use std::process::ExitCode;

@@ -5,6 +5,7 @@ pub mod calls;
 pub mod every;
 pub mod number;
 pub mod optimum;
+pub mod printed;
 pub mod record;
 pub mod refusal;
 pub mod synopsis;

@@ -53,14 +53,14 @@ pub const ALL: [Refusal; 22] = [
     SlotBeyond,
 ];
 
-/// Which of the four calls can give a refusal: text to record, one slot, record against text, least band of a text.
-pub type Calls = [bool; 4];
-const ON_TEXT: Calls = [true, false, true, true];
-const ON_RECORD: Calls = [false, true, true, false];
-const TEXT_TO_RECORD: Calls = [true, false, false, false];
-const ONE_SLOT: Calls = [false, true, false, false];
-const RECORD_AGAINST_TEXT: Calls = [false, false, true, false];
-const LEAST_BAND: Calls = [false, false, false, true];
+/// Which calls can give a refusal: text to record, one slot, record against text, least band of a text, the program `fire`.
+pub type Calls = [bool; 5];
+const ON_TEXT: Calls = [true, false, true, true, true];
+const ON_RECORD: Calls = [false, true, true, false, false];
+const TEXT_TO_RECORD: Calls = [true, false, false, false, false];
+const ONE_SLOT: Calls = [false, true, false, false, false];
+const RECORD_AGAINST_TEXT: Calls = [false, false, true, false, false];
+const LEAST_BAND: Calls = [false, false, false, true, false];
 
 impl Refusal {
     /// The number returned, the calls that can return it in this case, and the case in the row's words.

@@ -4,6 +4,7 @@ mod budgets;
 mod firings;
 mod instances;
 mod numbers;
+mod program;
 mod records;
 mod self_check;
 mod texts;
@@ -12,7 +13,7 @@ use crate::comparison::Comparison;
 
 pub type Group = fn(&mut Comparison);
 
-pub const ALL: [(&str, Group); 7] = [
+pub const ALL: [(&str, Group); 8] = [
     ("the second program against itself", self_check::run),
     ("document 01's instances", instances::run),
     ("numbers as typed", numbers::run),
@@ -20,4 +21,5 @@ pub const ALL: [(&str, Group); 7] = [
     ("firings: built, restored, checked", firings::run),
     ("budgets", budgets::run),
     ("records, good and damaged", records::run),
+    ("the program fire", program::run),
 ];

@@ -1,0 +1,86 @@
+//! The program `fire` on texts of every kind: refused by each number, and printed in full where they are not.
+
+use crate::comparison::Comparison;
+use crate::document::SLOT_LIMIT;
+use crate::document::text::{Profile, write_text};
+use crate::inputs::profiles::{LIMIT_VALUES, SHAPES, any_profile, profile};
+use crate::inputs::random::Random;
+use crate::inputs::typed::{NO_NUMBERS, OUT_OF_RANGE, lines, text};
+
+/// What document 01 has `fire` print for its own text, to the letter.
+const FIRING: &[u8] = b"14,00\n0,25\n14,10\n13,90\n20,00\n19,50\n";
+const FIRING_PRINTED: &str = "4 1 0,25 0,25\nterm 3 19,75\nslot 0 14,00\nslot 1 14,00\nslot 2 19,75\nslot 3 19,75\n";
+
+/// The longest text that is accepted: 514 lines of seven characters and the byte 10, 4,112 bytes.
+fn longest() -> Vec<u8> {
+    [b"-200,00\n-000,00\n".as_slice(), &b"-200,00\n".repeat(SLOT_LIMIT)].concat()
+}
+
+pub fn run(comparison: &mut Comparison) {
+    let mut random = Random::new(6);
+    let printed = comparison.fire(FIRING);
+    comparison.same("what fire prints for document 01's text", &"one firing in full", FIRING_PRINTED.into(), printed);
+    one_slot(comparison);
+    faults(comparison, &mut random);
+    long_texts(comparison);
+    for slots in 1..=SLOT_LIMIT {
+        let shape = SHAPES[slots % SHAPES.len()];
+        let profile = profile(&mut random, shape, slots);
+        comparison.fire(&text(&lines(&mut random, &profile)));
+    }
+    for shape in SHAPES {
+        comparison.fire(&write_text(&profile(&mut random, shape, SLOT_LIMIT)));
+    }
+    for _ in 0..200 {
+        let slots = 1 + random.below(12);
+        comparison.fire(&write_text(&any_profile(&mut random, slots)));
+    }
+}
+
+/// One slot, with values on both sides of 0 and at the limits.
+fn one_slot(comparison: &mut Comparison) {
+    for rest in LIMIT_VALUES {
+        for setpoint in LIMIT_VALUES {
+            for band in [0, 1, 40_000] {
+                comparison.fire(&write_text(&Profile { rest, band, setpoints: vec![setpoint] }));
+            }
+        }
+    }
+}
+
+/// Every fault in each of the first three lines, before more lines and as the last; lines ended as elsewhere, by 13 and 10.
+fn faults(comparison: &mut Comparison, random: &mut Random) {
+    let profile = any_profile(random, 5);
+    let good = lines(random, &profile);
+    for place in 0..3 {
+        for field in NO_NUMBERS.iter().chain(&OUT_OF_RANGE) {
+            let mut damaged = good.clone();
+            damaged[place] = field.to_vec();
+            comparison.fire(&text(&damaged));
+            comparison.fire(&text(&damaged[..=place]));
+        }
+        comparison.fire(&text(&good[..place]));
+    }
+    comparison.fire(&good.join(b"\r\n".as_slice()));
+    let whole = text(&good);
+    for end in 0..whole.len() {
+        comparison.fire(&whole[..end]);
+    }
+}
+
+/// 514 lines, and bytes after them: one, a line, and so many that the program does not read them all.
+fn long_texts(comparison: &mut Comparison) {
+    let longest = longest();
+    comparison.same("the bytes of the longest text", &"514 lines", 4_112, longest.len());
+    comparison.fire(&longest);
+    comparison.fire(&longest[..longest.len() - 1]);
+    for byte in 0..=255 {
+        comparison.fire(&[longest.as_slice(), &[byte]].concat());
+    }
+    comparison.fire(&[longest.as_slice(), b"0\n"].concat());
+    for line in [b"0\n".as_slice(), b"-200,00\n", b"14,50\r\n", b"0", b"\n", b"\0"] {
+        let mut many = line.repeat(100_000 / line.len() + 1);
+        many.truncate(100_000);
+        comparison.fire(&many);
+    }
+}
