@@ -43,10 +43,9 @@ returns c =
     let counted = c .before .before .before .before .before .before .before .before .before .before .before .before .before .before .count-terms in
     let found = c .before .before .before .before .before .before .before .before .before .before .before .least-band-within in
     let again = c .before .before .before .before .before .before .before .before .count-terms2 in
-    let traced = c .before .before .before .trace in
-    (
+    let traced = c .before .before .before .trace in (
       tree-built (args .band) (args .height) (args .value) (args .setpoints .now) (args .nodes .now) (args .values .now) (args .scratch .now) (start .pre) (counted .last .1 .1 .1 .0) (again .last .1 .1 .1 .0) (counted .result) (found .result) (again .result) (traced .result) (traced .last .1 .1 .1 .0) (traced .last .1 .1 .1 .1 .0)
-      (counted .ensures) (found .ensures .0) (again .ensures) (traced .ensures),
+          (counted .ensures) (found .ensures .0) (again .ensures) (traced .ensures),
       again .kept .1 .1 .1 .0 ∙ found .kept .1 .1 .1 .1 .0 ∙ counted .kept .1 .1 .1 .0,
     )
 
