@@ -5,7 +5,7 @@ use Prim.Native.Nat.{ℕ, _+_, _-_, _≤_, _<_}
 use native.Mathlib.Omega.{arith}
 use lib.IntN.{ℤ}
 use lib.ListN.{length}
-use Rattle.subtree.specs.Answer.{answer, needed}
+use Rattle.subtree.specs.Answer.{slotWindows, termsFor}
 use Rattle.subtree.specs.Stretch.{Solvable, Counted}
 use Rattle.build.specs.Inner.{Searchable, LeastWithin}
 
@@ -14,8 +14,8 @@ pub record Between (height value budget top : ℕ) (setpoints before scratch : L
   pub same-length : length scratch ≡ length before
   pub ordered : low ≤ high
   pub within-top : high ≤ top
-  pub enough : needed (answer high height setpoints) value ≤ budget
-  pub narrower-not : 0 < low → budget < needed (answer (low - 1) height setpoints) value
+  pub enough : termsFor high height setpoints value ≤ budget
+  pub narrower-not : 0 < low → budget < termsFor (low - 1) height setpoints value
 
 module _ (height value budget top : ℕ) (setpoints before : List ℤ) where
   pub search-starts : Searchable top height value budget setpoints before → Between height value budget top setpoints before before 0 top
@@ -41,7 +41,7 @@ module _ (height value budget top : ℕ) (setpoints before : List ℤ) where
       }
 
   module _ (scratch later : List ℤ) (low high band count : ℕ) (between : Between height value budget top setpoints before scratch low high)
-      (kept : length later ≡ length scratch) (counted : Counted band height value setpoints later count) where
+      (kept : length later ≡ length scratch) (counted : Counted height value (slotWindows band setpoints) later count) where
     pub enough-at : low ≤ band → band ≤ high → count ≤ budget → Between height value budget top setpoints before later low band
     enough-at from below few = record {
       same-length = kept ∙ between .same-length;
@@ -68,5 +68,5 @@ module _ (height value budget top : ℕ) (setpoints before : List ℤ) where
       record {
         within-top = between .within-top;
         enough = between .enough;
-        narrower-not = subst (λ (end : ℕ). 0 < end → budget < needed (answer (end - 1) height setpoints) value) same (between .narrower-not);
+        narrower-not = subst (λ (end : ℕ). 0 < end → budget < termsFor (end - 1) height setpoints value) same (between .narrower-not);
       }

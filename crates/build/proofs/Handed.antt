@@ -19,12 +19,13 @@ use Rattle.claims.proofs.Exists.{walkedTerms, walked-keeps, walked-as-few}
 use Rattle.claims.proofs.Reduced.{best-at-least-error, error-is-band}
 use Rattle.claims.proofs.Reduced as Reduced
 use Rattle.claims.proofs.Widest.{widest-needs-none}
-use Rattle.subtree.specs.Answer.{answer, needed}
-use Rattle.trace.specs.Trace.{upperTerms, Traced}
+use Rattle.subtree.specs.Answer.{termsFor}
+use Rattle.subtree.proofs.Slots.{windows-usable}
+use Rattle.trace.specs.Trace.{Traced}
 use Rattle.trace.proofs.Walked.{upper-terms-walked}
 use Rattle.build.specs.Building.{handedOver}
-use Rattle.build.specs.Inner.{Filled, Searchable, LeastWithin, Acceptable, Buildable, TreeFits, TreeBuilt, BestBuilt}
-use Rattle.build.proofs.Trees.{leaves, leaves-within, leaves-below, leaves-solvable, needed-at, few-needed}
+use Rattle.build.specs.Inner.{Filled, tracedFor, Searchable, LeastWithin, Acceptable, Buildable, TreeFits, TreeBuilt, BestBuilt}
+use Rattle.build.proofs.Trees.{leaves, leaves-within, leaves-solvable, windows-below, needed-at, few-needed}
 
 module _ {terms : List Term} {nodes nodes′ : List ℕ} {values values′ : List ℤ} {count : ℕ} (traced : Traced terms nodes nodes′ values values′ count) where
   as-many-nodes : length (nodesOf terms) ≡ count
@@ -59,8 +60,8 @@ module _ (profile : List ℤ) (rest : ℤ) (band : ℕ) (nodes : List ℕ) (valu
   slots = leaves profile room
 
   -- the terms traced for a band are those that the theory's walk leaves
-  terms-walked : (error : ℕ) → upperTerms error (suc (height (length profile))) (height (length profile)) slots (lifted rest) ≡ walkedTerms in-range error
-  terms-walked error = upper-terms-walked in-range error (leaves-within in-range few room long filled) (leaves-below in-range few room long filled)
+  terms-walked : (error : ℕ) → tracedFor error (height (length profile)) slots (lifted rest) ≡ walkedTerms in-range error
+  terms-walked error = upper-terms-walked in-range error (windows-usable error (leaves-within in-range few room long filled)) (windows-below in-range few room long filled error)
 
   pub tree-fits : TreeFits band (height (length profile)) (lifted rest) slots nodes values scratch
   tree-fits = record {
@@ -107,7 +108,7 @@ module _ (profile : List ℤ) (rest : ℤ) (budget : ℕ) (scratch : List ℤ) (
   abbrev near : InRange profile rest
   near = acceptable .in-range
 
-  needed-here : (band : ℕ) → needed (answer band (height (length profile)) (leaves profile room)) (lifted rest) ≡ fewestTerms profile rest band
+  needed-here : (band : ℕ) → termsFor band (height (length profile)) (leaves profile room) (lifted rest) ≡ fewestTerms profile rest band
   needed-here = needed-at near (acceptable .few-slots) room long filled
 
   pub tree-searchable : Searchable 40000 (height (length profile)) (lifted rest) budget (leaves profile room) scratch

@@ -5,7 +5,9 @@ use Prim.Native.Nat.{ℕ}
 use native.Mathlib.Omega.{arith}
 use lib.IntN.{ℤ}
 use lib.ListN.{length}
+use Rattle.subtree.specs.Answer.{slotWindows}
 use Rattle.subtree.specs.Stretch.{Solvable, Counted}
+use Rattle.subtree.proofs.Slots.{windows-usable}
 use Rattle.trace.specs.Trace.{LevelsFit, LevelsTraced}
 use Rattle.build.specs.Inner.{Searchable, LeastWithin, TreeFits, TreeBuilt}
 
@@ -22,16 +24,15 @@ module _ (band height value : ℕ) (setpoints : List ℤ) (nodes : List ℕ) (va
         room = omega (arith, solvable .room);
       }
 
-  pub searchable : (later : List ℤ) (budget : ℕ) → length later ≡ length before → Counted band height value setpoints later budget
+  pub searchable : (later : List ℤ) (budget : ℕ) → length later ≡ length before → Counted height value (slotWindows band setpoints) later budget
       → Searchable band height value budget setpoints later
   searchable later budget same-length counted = record { solvable = solvable-later later same-length; enough = omega (arith, counted .count-is) }
 
-  pub levels-fit : (later : List ℤ) (error count : ℕ) → length later ≡ length before → Counted error height value setpoints later count → LevelsFit later height value nodes values
+  pub levels-fit : (later : List ℤ) (error count : ℕ) → length later ≡ length before → Counted height value (slotWindows error setpoints) later count → LevelsFit later height value nodes values
   levels-fit later error count same-length counted = record {
     stretch = record {
-      band = error;
-      setpoints = setpoints;
-      setpoints-within = fits .solvable .setpoints-within;
+      leaves = slotWindows error setpoints;
+      usable = windows-usable error (fits .solvable .setpoints-within);
       solved = counted .solved;
       in-tree = fits .solvable .in-tree;
       long = solvable-later later same-length .room;
@@ -42,9 +43,9 @@ module _ (band height value : ℕ) (setpoints : List ℤ) (nodes : List ℕ) (va
   }
 
   pub tree-built : (later last : List ℤ) (budget error again count : ℕ) (nodes′ : List ℕ) (values′ : List ℤ)
-      → Counted band height value setpoints later budget → LeastWithin band height value budget setpoints error → Counted error height value setpoints last again
+      → Counted height value (slotWindows band setpoints) later budget → LeastWithin band height value budget setpoints error → Counted height value (slotWindows error setpoints) last again
       → LevelsTraced last height value nodes nodes′ values values′ count → TreeBuilt band height value setpoints nodes nodes′ values values′ count error
   tree-built later last budget error again count nodes′ values′ counted least counted-again traced = record {
     least = subst (λ (number : ℕ). LeastWithin band height value number setpoints error) (counted .count-is) least;
-    traced = traced .each error setpoints (counted-again .solved);
+    traced = traced .each (slotWindows error setpoints) (counted-again .solved);
   }

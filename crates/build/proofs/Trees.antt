@@ -14,13 +14,15 @@ use Rattle.histogram.specs.Errors.{setpointOf}
 use Rattle.histogram.proofs.Order.{below-or-not}
 use Rattle.histogram.proofs.Powers.{level-rule, level-only, level-in-table, height-bound, padded-bound}
 use Rattle.fewest.specs.Node.{missed}
-use Rattle.claims.specs.Inner.{lifted, fewestTerms, InRange}
+use Rattle.claims.specs.Inner.{lifted, accepts, fewestTerms, InRange}
+use Rattle.claims.proofs.Lifted.{lifted-within}
 use Rattle.windows.specs.Windows.{covers}
-use Rattle.subtree.specs.Answer.{answer, needed}
+use Rattle.subtree.specs.Answer.{slotWindows, answer, termsFor}
 use Rattle.subtree.specs.Stretch.{Within, Solvable}
 use Rattle.subtree.proofs.Places.{places-within}
 use Rattle.subtree.proofs.Answers.{answer-bounded}
-use Rattle.subtree.proofs.Rows.{Below, needed-is-fewest}
+use Rattle.subtree.proofs.Slots.{windows-usable}
+use Rattle.subtree.proofs.Rows.{Below, needed-is-fewest, slots-below}
 use Rattle.build.specs.Inner.{Filled}
 
 missed-once : (test : Bool) → missed test ≤ 1
@@ -53,12 +55,11 @@ module _ {profile : List ℤ} {rest : ℤ} (in-range : InRange profile rest) (fe
         (below-or-not slot (padded (length profile)));
   }
 
-  pub leaves-below : Below profile (height (length profile)) 1 (leaves profile room)
-  leaves-below = record {
-    each = λ slot inside.
-        let same : slot ≡ 1 * 2 ^ height (length profile) + slot - padded (length profile) = omega arith in
-        leaf-is slot inside ∙ ap (setpointOf profile) same;
-  }
+  pub windows-below : (band : ℕ) → Below (accepts profile band) (height (length profile)) 1 (slotWindows band (leaves profile room))
+  windows-below band =
+      slots-below profile band (height (length profile)) 1 leaves-within leaves-long λ slot inside.
+      let same : slot ≡ 1 * 2 ^ height (length profile) + slot - padded (length profile) = omega arith in
+      leaf-is slot inside ∙ ap (setpointOf profile) same
 
   pub leaves-solvable : (band : ℕ) → band ≤ 40000 → (scratch : List ℤ) → 12288 ≤ length scratch → Solvable band (height (length profile)) (leaves profile room) scratch
   leaves-solvable band band-within scratch scratch-long = record {
@@ -70,11 +71,13 @@ module _ {profile : List ℤ} {rest : ℤ} (in-range : InRange profile rest) (fe
   }
 
   -- the terms that the tree needs are the fewest terms
-  pub needed-at : (band : ℕ) → needed (answer band (height (length profile)) (leaves profile room)) (lifted rest) ≡ fewestTerms profile rest band
-  needed-at band = needed-is-fewest in-range band leaves-within leaves-below
+  pub needed-at : (band : ℕ) → termsFor band (height (length profile)) (leaves profile room) (lifted rest) ≡ fewestTerms profile rest band
+  needed-at band =
+      needed-is-fewest (accepts profile band) (height (length profile)) (windows-usable band leaves-within) (windows-below band) (lifted rest) (lifted-within rest (in-range .rest-within))
 
   -- no more than the tree has leaves
   pub few-needed : (band : ℕ) → fewestTerms profile rest band ≤ padded (length profile)
   few-needed band =
-      let one = answer band (height (length profile)) (leaves profile room) in
-      omega (arith, needed-at band, answer-bounded band (height (length profile)) (leaves profile room) .below, missed-once (covers (one .windows) (lifted rest)))
+      let windows = slotWindows band (leaves profile room) in
+      let one = answer (height (length profile)) windows in
+      omega (arith, needed-at band, answer-bounded (height (length profile)) windows .below, missed-once (covers (one .windows) (lifted rest)))

@@ -8,7 +8,8 @@ use Rattle.histogram.specs.Tree.{padded}
 use Rattle.histogram.specs.Errors.{setpointOf, greatestError}
 use Rattle.claims.specs.Inner.{InRange}
 use Rattle.claims.specs.Best.{Best}
-use Rattle.subtree.specs.Answer.{answer, needed}
+use Rattle.histogram.specs.declared.Term.{Term}
+use Rattle.subtree.specs.Answer.{slotWindows, termsFor}
 use Rattle.subtree.specs.Stretch.{Solvable}
 use Rattle.trace.specs.Trace.{upperTerms, Traced}
 use Rattle.build.specs.Building.{handedOver}
@@ -17,28 +18,32 @@ use Rattle.build.specs.Building.{handedOver}
 pub record Filled (profile setpoints : List ℤ) : Type 0 where
   pub each : (slot : ℕ) → slot < length setpoints → getD setpoints slot (pos 0) ≡ setpointOf profile slot
 
+-- the terms that are traced for a band over a tree of setpoints, where a value comes in at the root
+abbrev pub tracedFor : (band height : ℕ) → List ℤ → (value : ℕ) → List Term
+tracedFor band height setpoints value = upperTerms (suc height) height (slotWindows band setpoints) value
+
 -- a tree whose terms for the widest band are within a budget
 pub record Searchable (top height value budget : ℕ) (setpoints scratch : List ℤ) : Type 0 where
   pub solvable : Solvable top height setpoints scratch
-  pub enough : needed (answer top height setpoints) value ≤ budget
+  pub enough : termsFor top height setpoints value ≤ budget
 
 -- the least band up to `top` whose terms are within the budget
 pub record LeastWithin (top height value budget : ℕ) (setpoints : List ℤ) (least : ℕ) : Type 0 where
   pub within-top : least ≤ top
-  pub enough : needed (answer least height setpoints) value ≤ budget
-  pub narrower-not : 0 < least → budget < needed (answer (least - 1) height setpoints) value
+  pub enough : termsFor least height setpoints value ≤ budget
+  pub narrower-not : 0 < least → budget < termsFor (least - 1) height setpoints value
 
 -- a tree with a stretch of scratch, and room for the terms that it needs for any band
 pub record TreeFits (band height value : ℕ) (setpoints : List ℤ) (nodes : List ℕ) (values scratch : List ℤ) : Type 0 where
   pub solvable : Solvable band height setpoints scratch
   pub value-within : value ≤ 40000
-  pub room : (error : ℕ) → length (upperTerms error (suc height) height setpoints value) ≤ length nodes
+  pub room : (error : ℕ) → length (tracedFor error height setpoints value) ≤ length nodes
   pub same-room : length values ≡ length nodes
 
 -- the least band that takes no more terms than the given band, and the terms traced for it
 pub record TreeBuilt (band height value : ℕ) (setpoints : List ℤ) (nodes nodes′ : List ℕ) (values values′ : List ℤ) (count error : ℕ) : Type 0 where
-  pub least : LeastWithin band height value (needed (answer band height setpoints) value) setpoints error
-  pub traced : Traced (upperTerms error (suc height) height setpoints value) nodes nodes′ values values′ count
+  pub least : LeastWithin band height value (termsFor band height setpoints value) setpoints error
+  pub traced : Traced (tracedFor error height setpoints value) nodes nodes′ values values′ count
 
 -- setpoints, a rest value and scratch that are not refused
 pub record Acceptable (profile : List ℤ) (rest : ℤ) (scratch : List ℤ) : Type 0 where

@@ -8,7 +8,7 @@ use lib.IntN.{ℤ, pos, negsuc, natAbs, subℕ}
 use lib.ListN.{length}
 use Rattle.histogram.specs.declared.Term.{Term}
 use Rattle.histogram.specs.Tree.{height, padded, levelOf}
-use Rattle.histogram.specs.Errors.{setpointOf}
+use Rattle.histogram.specs.Errors.{setpointOf, bandAt}
 use Rattle.fewest.specs.Node.{placed, chosen}
 use Rattle.fewest.specs.Tree.{binary}
 use Rattle.fewest.specs.Cost.{fewest}
@@ -22,9 +22,11 @@ lifted (negsuc n) = 20000 - suc n
 abbrev pub distance : ℕ → ℕ → ℕ
 distance a b = (a - b) + (b - a)
 
--- whether a value is within the band of the setpoint at a leaf
+-- whether the slot at a leaf accepts a value: it is within the slot's band of the slot's setpoint
 abbrev pub accepts : List ℤ → ℕ → ℕ → ℕ → Bool
-accepts profile band leaf value = leb (distance (lifted (setpointOf profile (leaf - padded (length profile)))) value) band
+accepts profile band leaf value =
+    let slot : ℕ = leaf - padded (length profile) in
+    leb (distance (lifted (setpointOf profile slot)) value) (bandAt band slot)
 
 -- a term's node and its value, as the theory takes them
 abbrev pub termNode : Term → ℕ

@@ -16,6 +16,14 @@ setpointOf profile slot = getD profile (min slot (length profile - 1)) (pos 0)
 abbrev pub slotError : List ℤ → ℤ → List Term → ℕ → ℕ
 slotError profile rest terms slot = natAbs (setpointOf profile slot -ℤ restoredSlot (length profile) rest terms slot)
 
+-- the slots that count, from slot 0 on: "building and checking treat" filler "as slots", so all m
+abbrev pub slotsOf : List ℤ → ℕ
+slotsOf profile = padded (length profile)
+
+-- the band that a slot goes by: one for all
+abbrev pub bandAt : ℕ → ℕ → ℕ
+bandAt band slot = band
+
 -- the greatest of what a function gives for 0, 1 and on, `count` of them; 0 for none
 unfoldable pub greatest : (ℕ → ℕ) → ℕ → ℕ
 greatest f zero = 0
@@ -23,8 +31,8 @@ greatest f (suc count) = max (greatest f count) (f count)
 
 -- "The greatest error runs over all m slots"
 abbrev pub greatestError : List ℤ → ℤ → List Term → ℕ
-greatestError profile rest terms = greatest (slotError profile rest terms) (padded (length profile))
+greatestError profile rest terms = greatest (slotError profile rest terms) (slotsOf profile)
 
 -- "A synopsis keeps a band when every slot's error is within it"; "an error equal to the band is within it"
 pub record Keeps (profile : List ℤ) (rest : ℤ) (terms : List Term) (band : ℕ) : Type 0 where
-  pub every-slot : (slot : ℕ) → slot < padded (length profile) → slotError profile rest terms slot ≤ band
+  pub every-slot : (slot : ℕ) → slot < slotsOf profile → slotError profile rest terms slot ≤ bandAt band slot

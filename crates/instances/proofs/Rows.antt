@@ -14,11 +14,14 @@ use Rattle.histogram.specs.declared.Term.{Term}
 use Rattle.histogram.specs.Tree.{height, padded}
 use Rattle.claims.specs.Best.{KeepingSynopsis, Best}
 use Rattle.claims.specs.LeastBand.{LeastBand}
-use Rattle.claims.specs.Inner.{lifted, fewestTerms, InRange}
+use Rattle.claims.specs.Inner.{lifted, accepts, fewestTerms, InRange}
+use Rattle.claims.proofs.Lifted.{lifted-within}
 use Rattle.claims.proofs.Exists.{walkedTerms, walked-keeps, walked-as-few}
 use Rattle.claims.proofs.Reduced.{error-is-band, best-at-least-error, least-band}
-use Rattle.subtree.specs.Answer.{answer, needed}
-use Rattle.subtree.proofs.Rows.{Below, needed-is-fewest}
+use Rattle.subtree.specs.Answer.{slotWindows, termsFor}
+use Rattle.subtree.specs.Stretch.{Within}
+use Rattle.subtree.proofs.Slots.{windows-usable}
+use Rattle.subtree.proofs.Rows.{Below, needed-is-fewest, slots-below}
 use Rattle.instances.specs.Instances.{CountAndError, BestHave}
 
 -- a best synopsis has the number of terms and the greatest error of any other best one
@@ -35,7 +38,7 @@ best-agree {profile} {rest} {band} {count} {error} {terms} {other} best has othe
 
 -- the terms that a profile's tree needs for a band
 abbrev pub neededTerms : List ℤ → ℤ → ℕ → ℕ
-neededTerms profile rest band = needed (answer band (height (length profile)) profile) (lifted rest)
+neededTerms profile rest band = termsFor band (height (length profile)) profile (lifted rest)
 
 -- what is asked of a profile and a rest value: no number beyond ±20,000, and slots that are a power of two
 pub record Full (profile : List ℤ) (rest : ℤ) : Type 0 where
@@ -48,17 +51,20 @@ module _ {profile : List ℤ} {rest : ℤ} (full : Full profile rest) where
   in-range : InRange profile rest
   in-range = record { setpoints-within = λ slot. within-all profile (full .none-beyond) (min slot (length profile - 1)); rest-within = full .rest-within }
 
-  -- with no filler slots the setpoints below the root are the profile
-  below-root : Below profile (height (length profile)) 1 profile
-  below-root = record {
-    each = λ place inside.
-        let slot : place ≡ min (1 * 2 ^ height (length profile) + place - padded (length profile)) (length profile - 1) = omega (arith, full .no-filler) in
-        ap (λ (one : ℕ). getD profile one (pos 0)) slot;
-  }
+  within : Within profile
+  within = record { each = within-all profile (full .none-beyond) }
+
+  -- with no filler slots the windows below the root are those of the profile
+  below-root : (band : ℕ) → Below (accepts profile band) (height (length profile)) 1 (slotWindows band profile)
+  below-root band =
+      slots-below profile band (height (length profile)) 1 within (sym (full .no-filler)) λ slot inside.
+      let same : slot ≡ min (1 * 2 ^ height (length profile) + slot - padded (length profile)) (length profile - 1) = omega (arith, full .no-filler) in
+      ap (λ (one : ℕ). getD profile one (pos 0)) same
 
   -- the terms needed are the fewest
   needed-fewest : (band : ℕ) → neededTerms profile rest band ≡ fewestTerms profile rest band
-  needed-fewest band = needed-is-fewest in-range band (record { each = within-all profile (full .none-beyond) }) below-root
+  needed-fewest band =
+      needed-is-fewest (accepts profile band) (height (length profile)) (windows-usable band within) (below-root band) (lifted rest) (lifted-within rest (full .rest-within))
 
   -- a best synopsis: as many terms are needed for its greatest error as for the band, and more for any smaller error
   pub row-builds : {band count error : ℕ} → error ≤ band → neededTerms profile rest band ≡ count → neededTerms profile rest error ≡ count

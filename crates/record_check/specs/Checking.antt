@@ -10,9 +10,8 @@ use lib.ListN.{length}
 use Rattle.limits.specs.Answers.{_when_, _then_, granted}
 use Rattle.limits.specs.Limits.{outsideSlots, anyBeyond}
 use Rattle.histogram.specs.declared.Term.{Term}
-use Rattle.histogram.specs.Tree.{padded}
 use Rattle.histogram.specs.Restored.{restoredSlot}
-use Rattle.histogram.specs.Errors.{slotError, greatestError}
+use Rattle.histogram.specs.Errors.{slotError, slotsOf, bandAt, greatestError}
 use Rattle.record.specs.Record.{slotsIn, bandIn, restIn, termsIn}
 use Rattle.record.specs.Answers.{recordRefusal}
 
@@ -42,11 +41,11 @@ lowest test (suc count) = cond (test 0) 0 (suc (lowest (λ k. test (suc k)) coun
 
 -- "kept": every slot's error is within the band
 abbrev pub kept : List ℤ → ℤ → List Term → ℕ → Bool
-kept profile rest terms band = every (λ slot. leb (slotError profile rest terms slot) band) (padded (length profile))
+kept profile rest terms band = every (λ slot. leb (slotError profile rest terms slot) (bandAt band slot)) (slotsOf profile)
 
 -- "the lowest slot whose error exceeds the band"
 abbrev pub lowestBeyond : List ℤ → ℤ → List Term → ℕ → ℕ
-lowestBeyond profile rest terms band = lowest (λ slot. ltb band (slotError profile rest terms slot)) (padded (length profile))
+lowestBeyond profile rest terms band = lowest (λ slot. ltb (bandAt band slot) (slotError profile rest terms slot)) (slotsOf profile)
 
 -- a verdict on a synopsis: kept with the greatest error, or not kept with the lowest slot; "the other number is 0"
 pub record Verdict (profile : List ℤ) (rest : ℤ) (terms : List Term) (band : ℕ) (is-kept : Bool) (error slot : ℕ) : Type 0 where

@@ -6,11 +6,12 @@ use Prim.Native.Nat.{ℕ, _+_, _*_, _≤_}
 use native.Mathlib.Omega.{arith}
 use lib.IntN.{ℤ}
 use lib.ListN.{length}
-use Rattle.windows.specs.Windows.{covers, Sorted}
+use Rattle.windows.specs.Windows.{Window, covers, Sorted}
 use Rattle.windows.specs.Scratch.{at, windowsAt}
-use Rattle.subtree.specs.Answer.{Answer, answer, needed}
+use Rattle.subtree.specs.Answer.{Answer, slotWindows, answer, needed}
 use Rattle.subtree.specs.Stretch.{answerAt, Solved, Solvable, Counted}
 use Rattle.subtree.proofs.Places.{own-first}
+use Rattle.subtree.proofs.Slots.{windows-usable}
 use Rattle.subtree.proofs.Answers.{answer-sorted, answer-bounded}
 use Rattle.subtree.proofs.Solving.{solved-top, count-of}
 
@@ -20,19 +21,22 @@ pub record Front (scratch : List ℤ) : Type 0 where
   pub sorted : Sorted 0 (windowsAt (at scratch) 2 (at scratch 1))
 
 module _ (band height : ℕ) (setpoints before scratch : List ℤ) (solvable : Solvable band height setpoints before)
-    (same-length : length scratch ≡ length before) (solved : Solved band height setpoints (at scratch)) where
-  top : answerAt (at scratch) 0 ≡ answer band height setpoints
-  top = solved-top band height setpoints (at scratch) solved
+    (same-length : length scratch ≡ length before) (solved : Solved height (slotWindows band setpoints) (at scratch)) where
+  abbrev leaves : List Window
+  leaves = slotWindows band setpoints
+
+  top : answerAt (at scratch) 0 ≡ answer height leaves
+  top = solved-top height leaves (at scratch) solved
 
   pub front : Front scratch
   front = record {
-    fits = omega (arith, solvable .room, own-first height, count-of (at scratch) 0 (answer band height setpoints) top, answer-bounded band height setpoints .few);
-    sorted = subst (λ (one : Answer). Sorted 0 (one .windows)) (sym top) (answer-sorted (solvable .setpoints-within) band height);
+    fits = omega (arith, solvable .room, own-first height, count-of (at scratch) 0 (answer height leaves) top, answer-bounded height leaves .few);
+    sorted = subst (λ (one : Answer). Sorted 0 (one .windows)) (sym top) (answer-sorted (windows-usable band (solvable .setpoints-within)) height);
   }
 
   module _ (value count : ℕ) where
-    pub counted-inside : count ≡ at scratch 0 → covers (windowsAt (at scratch) 2 (at scratch 1)) value ≡ true → Counted band height value setpoints scratch count
+    pub counted-inside : count ≡ at scratch 0 → covers (windowsAt (at scratch) 2 (at scratch 1)) value ≡ true → Counted height value leaves scratch count
     counted-inside count-is inside = record { count-is = subst (λ (one : Answer). count ≡ needed one value) top (rw inside (omega arith)); solved = solved }
 
-    pub counted-outside : count ≡ at scratch 0 → covers (windowsAt (at scratch) 2 (at scratch 1)) value ≡ false → Counted band height value setpoints scratch (count + 1)
+    pub counted-outside : count ≡ at scratch 0 → covers (windowsAt (at scratch) 2 (at scratch 1)) value ≡ false → Counted height value leaves scratch (count + 1)
     counted-outside count-is outside = record { count-is = subst (λ (one : Answer). count + 1 ≡ needed one value) top (rw outside (omega arith)); solved = solved }

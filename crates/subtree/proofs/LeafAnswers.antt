@@ -9,7 +9,7 @@ use Rattle.claims.specs.Inner.{lifted}
 use Rattle.claims.proofs.Lifted.{lifted-within}
 use Rattle.windows.specs.Scratch.{signed, at, windowsAt}
 use Rattle.windows.proofs.Reading.{at-set-same, at-set-other}
-use Rattle.subtree.specs.Answer.{answer}
+use Rattle.subtree.specs.Answer.{slotWindow, answer}
 use Rattle.subtree.specs.Stretch.{answerAt, Headed, LeafSolved}
 use Rattle.subtree.specs.Pair.{single, SlotEnds, SingleAt, DoubleWritten}
 
@@ -131,9 +131,9 @@ slot-ends band setpoint middle low high within middle-is low-is high-is = record
 }
 
 -- the answer of a leaf, by the ends of its slot's window
-pub leaf-is : (band : ℕ) (setpoint : ℤ) (low high : ℕ) → SlotEnds band setpoint low high → single low high ≡ answer band 0 (setpoint ∷ [])
+pub leaf-is : (band : ℕ) (setpoint : ℤ) (low high : ℕ) → SlotEnds band setpoint low high → single low high ≡ answer 0 (slotWindow band setpoint ∷ [])
 unfolding answer
 leaf-is band setpoint low high ends = ap₂ single (ends .low-is) (ends .high-is)
 
-pub leaf-solved : (band : ℕ) (setpoint : ℤ) (low high : ℕ) (before after : List ℤ) → SlotEnds band setpoint low high → SingleAt 0 low high before after → LeafSolved band setpoint after
+pub leaf-solved : (band : ℕ) (setpoint : ℤ) (low high : ℕ) (before after : List ℤ) → SlotEnds band setpoint low high → SingleAt 0 low high before after → LeafSolved (slotWindow band setpoint) after
 leaf-solved band setpoint low high before after ends written = record { answer-is = written .answer-is ∙ leaf-is band setpoint low high ends }

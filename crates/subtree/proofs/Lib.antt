@@ -3,6 +3,7 @@ pub mod Lent
 pub mod Combining
 pub mod LeafAnswers
 pub mod Lifting
+pub mod Slots
 pub mod Answers
 pub mod Rows
 pub mod Solving

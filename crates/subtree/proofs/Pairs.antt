@@ -9,7 +9,7 @@ use lib.ListN.{length, getD, take, drop}
 use borrow.Author.Tests.{le-leb, lt-leb, lt-ltb, le-ltb}
 use Rattle.windows.specs.Windows.{Window, meet, join}
 use Rattle.windows.specs.Scratch.{at}
-use Rattle.subtree.specs.Answer.{Answer, combined, answer}
+use Rattle.subtree.specs.Answer.{Answer, slotWindow, slotWindows, combined, answer}
 use Rattle.subtree.specs.Stretch.{places, answerAt, Solved, Halves, Planned}
 use Rattle.subtree.specs.Pair.{single, SlotEnds, SingleAt, DoubleWritten, LeavesCombined, PairSolved}
 use Rattle.subtree.proofs.Places.{planned}
@@ -63,7 +63,7 @@ still-single place low high before written after of-window same =
 pub pair-solved : (band : ℕ) (left right : ℤ) (left-low left-high right-low right-high : ℕ) (before first second after : List ℤ)
     → SlotEnds band left left-low left-high → SlotEnds band right right-low right-high
     → SingleAt 6 left-low left-high before first → SingleAt 10 right-low right-high first second → LeavesCombined left-low left-high right-low right-high second after
-    → PairSolved band left right after
+    → PairSolved (slotWindow band left) (slotWindow band right) after
 unfolding Solved answer places
 pair-solved band left right left-low left-high right-low right-high before first second after left-ends right-ends of-left of-right of-both =
     let left-is = leaf-is band left left-low left-high left-ends in
@@ -91,7 +91,7 @@ pair-places (suc zero) some few = refl
 pair-places (suc (suc height)) some few = absurd (omega arith)
 
 pub pair-whole : (band height : ℕ) (setpoints after : List ℤ) → 0 < height → height ≤ 1 → length setpoints ≡ 2 ^ height
-    → PairSolved band (getD setpoints 0 (pos 0)) (getD setpoints 1 (pos 0)) after → Solved band height setpoints (at after)
+    → PairSolved (slotWindow band (getD setpoints 0 (pos 0))) (slotWindow band (getD setpoints 1 (pos 0))) after → Solved height (slotWindows band setpoints) (at after)
 pair-whole band zero setpoints after some few slots pair = absurd (omega arith)
 pair-whole band (suc zero) [] after some few slots pair = absurd (omega arith)
 pair-whole band (suc zero) (left ∷ []) after some few slots pair = absurd (omega arith)
@@ -111,8 +111,9 @@ four-planned = planned 2 2 14 (omega arith) (omega arith) refl refl
 
 -- each pair is solved in its part
 pub pairs-solved : (band : ℕ) (setpoints left right : List ℤ) → length setpoints ≡ 4
-    → PairSolved band (getD setpoints 0 (pos 0)) (getD setpoints 1 (pos 0)) left → PairSolved band (getD setpoints 2 (pos 0)) (getD setpoints 3 (pos 0)) right
-    → Solved band 1 (take 2 setpoints) (at left) × Solved band 1 (take (length setpoints - 2) (drop 2 setpoints)) (at right)
+    → PairSolved (slotWindow band (getD setpoints 0 (pos 0))) (slotWindow band (getD setpoints 1 (pos 0))) left
+    → PairSolved (slotWindow band (getD setpoints 2 (pos 0))) (slotWindow band (getD setpoints 3 (pos 0))) right
+    → Solved 1 (take 2 (slotWindows band setpoints)) (at left) × Solved 1 (drop 2 (slotWindows band setpoints)) (at right)
 pairs-solved band [] left right slots of-left of-right = absurd (omega arith)
 pairs-solved band (a ∷ []) left right slots of-left of-right = absurd (omega arith)
 pairs-solved band (a ∷ b ∷ []) left right slots of-left of-right = absurd (omega arith)
@@ -121,13 +122,13 @@ pairs-solved band (a ∷ b ∷ c ∷ d ∷ []) left right slots of-left of-right
 pairs-solved band (a ∷ b ∷ c ∷ d ∷ e ∷ others) left right slots of-left of-right = absurd (omega arith)
 
 -- and both are what a node of height 2 asks of its children
-pub pairs-below : (band height half own middle end : ℕ) (setpoints scratch : List ℤ) → 1 < height → height ≤ 2 → Planned height half own middle end
-    → Halves band 1 10 24 setpoints scratch → Halves band (height - 1) own middle setpoints scratch
+pub pairs-below : (height half own middle end : ℕ) (leaves : List Window) (scratch : List ℤ) → 1 < height → height ≤ 2 → Planned height half own middle end
+    → Halves 1 10 24 leaves scratch → Halves (height - 1) own middle leaves scratch
 unfolding places
-pairs-below band zero half own middle end setpoints scratch some few of-node pairs = absurd (omega arith)
-pairs-below band (suc zero) half own middle end setpoints scratch some few of-node pairs = absurd (omega arith)
-pairs-below band (suc (suc zero)) half own middle end setpoints scratch some few of-node pairs =
+pairs-below zero half own middle end leaves scratch some few of-node pairs = absurd (omega arith)
+pairs-below (suc zero) half own middle end leaves scratch some few of-node pairs = absurd (omega arith)
+pairs-below (suc (suc zero)) half own middle end leaves scratch some few of-node pairs =
     let own-is : own ≡ 10 = of-node .own-is in
     let middle-is : middle ≡ 24 = of-node .middle-is ∙ ap (λ (start : ℕ). start + 14) own-is in
     rw (own-is, middle-is) pairs
-pairs-below band (suc (suc (suc height))) half own middle end setpoints scratch some few of-node pairs = absurd (omega arith)
+pairs-below (suc (suc (suc height))) half own middle end leaves scratch some few of-node pairs = absurd (omega arith)

@@ -6,30 +6,31 @@ use mathlib.Core.List.{List, [], _∷_}
 use Prim.Native.Nat.{ℕ, zero, suc, _+_, _*_, _-_, _^_, _≤_, _<_, min}
 use native.Mathlib.Nat.{add-mul, mul-assoc, mul-left-comm}
 use native.Mathlib.Omega.{arith}
-use lib.Dec.{T, leb, le→leb}
+use lib.Dec.{T, leb}
 use borrow.Author.Tests.{leb-true, leb-false, le-leb, lt-leb}
 use lib.IntN.{ℤ, pos}
 use lib.ListN.{length, getD, take, drop}
 use lib.Seq.{getD-drop, getD-take}
 use mir.Facts.{and-yes}
-use Rattle.histogram.specs.Tree.{height, padded}
+use Rattle.histogram.specs.Tree.{padded}
 use Rattle.histogram.specs.Errors.{setpointOf}
 use Rattle.fewest.specs.Tree.{binary}
-use Rattle.fewest.specs.Cost.{cost}
+use Rattle.fewest.specs.Cost.{cost, fewest}
 use Rattle.fewest.specs.Row.{Inhabited, Row}
 use Rattle.fewest.proofs.Rows.{same-set, row-needs, leaf-row}
 use Rattle.fewest.proofs.Meeting.{sets-meet, sets-apart}
-use Rattle.claims.specs.Inner.{lifted, distance, accepts, fewestTerms, InRange}
+use Rattle.claims.specs.Inner.{lifted, distance, accepts}
 use Rattle.claims.proofs.Lifted.{lifted-within}
 use Rattle.windows.specs.Windows.{Window, inside, covers, Sorted, meet}
 use Rattle.windows.proofs.Sets.{covers-meet, covers-join, first-within, first-inside, sorted-meet}
-use Rattle.subtree.specs.Answer.{Answer, slotWindow, combinedBy, combined, answer, needed}
-use Rattle.subtree.specs.Stretch.{Within}
-use Rattle.subtree.proofs.Answers.{apart, within-take, within-drop, answer-sorted}
+use Rattle.subtree.specs.Answer.{Answer, slotWindows, everyValue, combinedBy, combined, answer, needed}
+use Rattle.subtree.specs.Stretch.{Within, Usable}
+use Rattle.subtree.proofs.Slots.{window-at}
+use Rattle.subtree.proofs.Answers.{apart, usable-take, usable-drop, answer-sorted}
 
--- the setpoints below a node of a height: those of the slots that its leaves are
-pub record Below (profile : List ℤ) (height node : ℕ) (setpoints : List ℤ) : Type 0 where
-  pub each : (place : ℕ) → place < 2 ^ height → getD setpoints place (pos 0) ≡ setpointOf profile (node * 2 ^ height + place - padded (length profile))
+-- the windows of the leaves below a node of a height: each holds what its leaf accepts
+pub record Below (accept : ℕ → ℕ → Bool) (height node : ℕ) (leaves : List Window) : Type 0 where
+  pub each : (place : ℕ) → place < 2 ^ height → (value : ℕ) → value ≤ 40000 → accept (node * 2 ^ height + place) value ≡ inside (getD leaves place everyValue) value
 
 -- the leaves below a node, counted by its left child
 children-leaves : (height node : ℕ) → node * 2 ^ suc height ≡ 2 * node * 2 ^ height
@@ -37,32 +38,33 @@ children-leaves height node =
     let double : 2 ^ suc height ≡ 2 * 2 ^ height = omega arith in
     ap (λ (power : ℕ). node * power) double ∙ mul-left-comm node 2 (2 ^ height) ∙ sym (mul-assoc 2 node (2 ^ height))
 
-module _ {profile : List ℤ} {height node : ℕ} {setpoints : List ℤ} (below : Below profile (suc height) node setpoints) where
-  pub below-left : Below profile height (2 * node) (take (2 ^ height) setpoints)
+module _ {accept : ℕ → ℕ → Bool} {height node : ℕ} {leaves : List Window} (below : Below accept (suc height) node leaves) where
+  pub below-left : Below accept height (2 * node) (take (2 ^ height) leaves)
   below-left = record {
-    each = λ place inside.
-        let same : node * 2 ^ suc height + place ≡ 2 * node * 2 ^ height + place = omega (arith, children-leaves height node) in
-        getD-take (2 ^ height) setpoints place (pos 0) inside ∙ subst (λ (leaf : ℕ). getD setpoints place (pos 0) ≡ setpointOf profile (leaf - padded (length profile))) same (below .each place (omega arith));
+    each = λ place inside-half value within.
+        let same : 2 * node * 2 ^ height + place ≡ node * 2 ^ suc height + place = omega (arith, children-leaves height node) in
+        ap (λ (leaf : ℕ). accept leaf value) same ∙ below .each place (omega arith) value within
+        ∙ ap (λ (window : Window). inside window value) (sym (getD-take (2 ^ height) leaves place everyValue inside-half));
   }
 
-  pub below-right : Below profile height (2 * node + 1) (drop (2 ^ height) setpoints)
+  pub below-right : Below accept height (2 * node + 1) (drop (2 ^ height) leaves)
   below-right = record {
-    each = λ place inside.
-        let same : node * 2 ^ suc height + (2 ^ height + place) ≡ (2 * node + 1) * 2 ^ height + place = omega (arith, children-leaves height node, add-mul (2 * node) 1 (2 ^ height)) in
-        getD-drop (2 ^ height) setpoints place (pos 0)
-        ∙ subst (λ (leaf : ℕ). getD setpoints (2 ^ height + place) (pos 0) ≡ setpointOf profile (leaf - padded (length profile))) same (below .each (2 ^ height + place) (omega arith));
+    each = λ place inside-half value within.
+        let same : (2 * node + 1) * 2 ^ height + place ≡ node * 2 ^ suc height + (2 ^ height + place) = omega (arith, children-leaves height node, add-mul (2 * node) 1 (2 ^ height)) in
+        ap (λ (leaf : ℕ). accept leaf value) same ∙ below .each (2 ^ height + place) (omega arith) value within
+        ∙ ap (λ (window : Window). inside window value) (sym (getD-drop (2 ^ height) leaves place everyValue));
   }
 
--- a slot accepts what is in its window
-slot-accepts : (band setpoint value : ℕ) → setpoint ≤ 40000 → value ≤ 40000 → leb (distance setpoint value) band ≡ inside (slotWindow band setpoint) value
-slot-accepts band setpoint value within value-within = split (leb (setpoint - band) value) refl (leb value (min (setpoint + band) 40000)) refl
+-- a value is within the band of a setpoint exactly where it is in the slot's window
+near-is-inside : (band setpoint value : ℕ) → setpoint ≤ 40000 → value ≤ 40000 → leb (distance setpoint value) band ≡ inside (record { low = setpoint - band; high = min (setpoint + band) 40000 }) value
+near-is-inside band setpoint value within value-within = split (leb (setpoint - band) value) refl (leb value (min (setpoint + band) 40000)) refl
   where
     split : (above : Bool) → leb (setpoint - band) value ≡ above → (below : Bool) → leb value (min (setpoint + band) 40000) ≡ below → leb (distance setpoint value) band ≡ (above && below)
     split true above true below = le-leb (distance setpoint value) band (omega (arith, leb-true (setpoint - band) value above, leb-true value (min (setpoint + band) 40000) below))
     split true above false below = lt-leb (distance setpoint value) band (omega (arith, leb-false value (min (setpoint + band) 40000) below))
     split false above below is = lt-leb (distance setpoint value) band (omega (arith, leb-false (setpoint - band) value above))
 
-module _ (band height node : ℕ) (accept : ℕ → ℕ → Bool) (left right : Answer)
+module _ (height node : ℕ) (accept : ℕ → ℕ → Bool) (left right : Answer)
     (left-sorted : Sorted 0 (left .windows)) (right-sorted : Sorted 0 (right .windows))
     (left-row : Row 40000 (cost binary accept 40000 height (2 * node)) (left .number) (covers (left .windows)))
     (right-row : Row 40000 (cost binary accept 40000 height (2 * node + 1)) (right .number) (covers (right .windows))) where
@@ -87,32 +89,40 @@ module _ (band height node : ℕ) (accept : ℕ → ℕ → Bool) (left right : 
           (sets-meet accept 40000 height node left-row right-row (window .low) (first-within window windows 0 both-sorted) (in-each .0) (in-each .1))
           (λ v within. sym (covered v) ∙ ap (λ (both : List Window). covers both v) is)
 
-module _ {profile : List ℤ} (band : ℕ) where
+module _ (accept : ℕ → ℕ → Bool) where
   -- a node's answer is its row
-  pub answer-row : (height node : ℕ) {setpoints : List ℤ} → Within setpoints → Below profile height node setpoints
-      → Row 40000 (cost binary (accepts profile band) 40000 height node) (answer band height setpoints .number) (covers (answer band height setpoints .windows))
-  unfolding answer covers
-  answer-row zero node {setpoints} within below =
-      let slot : ℕ = node - padded (length profile) in
-      let own : getD setpoints 0 (pos 0) ≡ setpointOf profile slot =
-      subst (λ (leaf : ℕ). getD setpoints 0 (pos 0) ≡ setpointOf profile (leaf - padded (length profile))) (omega arith) (below .each 0 (omega arith)) in
-      let setpoint : ℕ = lifted (getD setpoints 0 (pos 0)) in
-      let accepted : (v : ℕ) → v ≤ 40000 → accepts profile band node v ≡ inside (slotWindow band setpoint) v =
-      λ v v-within. ap (λ (z : ℤ). leb (distance (lifted z) v) band) (sym own) ∙ slot-accepts band setpoint v (lifted-within (getD setpoints 0 (pos 0)) (within .each 0)) v-within in
-      let some-value : Inhabited 40000 (accepts profile band node) =
+  pub answer-row : (height node : ℕ) {leaves : List Window} → Usable leaves → Below accept height node leaves
+      → Row 40000 (cost binary accept 40000 height node) (answer height leaves .number) (covers (answer height leaves .windows))
+  unfolding answer covers Sorted
+  answer-row zero node {leaves} usable below =
+      let window : Window = getD leaves 0 everyValue in
+      let sorted = usable .each 0 in
+      let accepted : (v : ℕ) → v ≤ 40000 → accept node v ≡ inside window v =
+      λ v v-within. ap (λ (leaf : ℕ). accept leaf v) (omega arith) ∙ below .each 0 (omega arith) v v-within in
+      let some-value : Inhabited 40000 (accept node) =
       record {
-        value = setpoint;
-        within = lifted-within (getD setpoints 0 (pos 0)) (within .each 0);
-        inside = le→leb (distance (lifted (setpointOf profile slot)) setpoint) band (omega (arith, ap lifted own));
+        value = window .low;
+        within = omega (arith, sorted .1, sorted .2);
+        inside = subst T (or-false (inside window (window .low)) ∙ sym (accepted (window .low) (omega (arith, sorted .1, sorted .2)))) (first-inside window [] 0 sorted);
       } in
-      same-set (leaf-row binary (accepts profile band) 40000 node some-value) (λ v v-within. accepted v v-within ∙ sym (or-false (inside (slotWindow band setpoint) v)))
-  answer-row (suc height) node {setpoints} within below =
-      combined-row band height node (accepts profile band) (answer band height (take (2 ^ height) setpoints)) (answer band height (drop (2 ^ height) setpoints))
-      (answer-sorted (within-take within (2 ^ height)) band height) (answer-sorted (within-drop within (2 ^ height)) band height)
-      (answer-row height (2 * node) (within-take within (2 ^ height)) (below-left below)) (answer-row height (2 * node + 1) (within-drop within (2 ^ height)) (below-right below))
+      same-set (leaf-row binary accept 40000 node some-value) (λ v v-within. accepted v v-within ∙ sym (or-false (inside window v)))
+  answer-row (suc height) node {leaves} usable below =
+      combined-row height node accept (answer height (take (2 ^ height) leaves)) (answer height (drop (2 ^ height) leaves))
+      (answer-sorted (usable-take usable (2 ^ height)) height) (answer-sorted (usable-drop usable (2 ^ height)) height)
+      (answer-row height (2 * node) (usable-take usable (2 ^ height)) (below-left below)) (answer-row height (2 * node + 1) (usable-drop usable (2 ^ height)) (below-right below))
 
--- the terms that the whole tree needs are the fewest terms
-pub needed-is-fewest : {profile : List ℤ} {rest : ℤ} → InRange profile rest → (band : ℕ) {setpoints : List ℤ} → Within setpoints → Below profile (height (length profile)) 1 setpoints
-    → needed (answer band (height (length profile)) setpoints) (lifted rest) ≡ fewestTerms profile rest band
-needed-is-fewest {profile} {rest} in-range band {setpoints} within below =
-    sym (row-needs (answer-row band (height (length profile)) 1 within below) (lifted rest) (lifted-within rest (in-range .rest-within)))
+  -- the terms that the whole tree needs are the fewest terms
+  pub needed-is-fewest : (height : ℕ) {leaves : List Window} → Usable leaves → Below accept height 1 leaves → (rest : ℕ) → rest ≤ 40000
+      → needed (answer height leaves) rest ≡ fewest binary accept 40000 height rest
+  needed-is-fewest height usable below rest within = sym (row-needs (answer-row height 1 usable below) rest within)
+
+-- the slots of a profile accept what is in their windows
+pub slots-below : (profile : List ℤ) (band height node : ℕ) {setpoints : List ℤ} → Within setpoints → length setpoints ≡ 2 ^ height
+    → ((slot : ℕ) → slot < 2 ^ height → getD setpoints slot (pos 0) ≡ setpointOf profile (node * 2 ^ height + slot - padded (length profile)))
+    → Below (accepts profile band) height node (slotWindows band setpoints)
+slots-below profile band height node {setpoints} within long each-is = record {
+  each = λ slot inside-tree value value-within.
+      ap (λ (z : ℤ). leb (distance (lifted z) value) band) (sym (each-is slot inside-tree))
+      ∙ near-is-inside band (lifted (getD setpoints slot (pos 0))) value (lifted-within (getD setpoints slot (pos 0)) (within .each slot)) value-within
+      ∙ ap (λ (window : Window). inside window value) (sym (window-at band setpoints slot (omega arith)));
+}

@@ -1,6 +1,6 @@
 -- A solved stretch: it may be read otherwise, as a part of scratch, and it is made of the children's stretches and the node's answer.
 use mathlib.Core.Path.{_≡_, sym, ap, ap₂, subst, _∙_}
-use mathlib.Core.List.{List}
+use mathlib.Core.List.{List, [], _∷_}
 use Prim.Native.Nat.{ℕ, zero, suc, _+_, _*_, _-_, _^_, _≤_, _<_}
 use native.Mathlib.Omega.{arith}
 use lib.IntN.{ℤ, pos}
@@ -12,17 +12,18 @@ use Rattle.limits.proofs.Parts.{to-end}
 use Rattle.windows.specs.Windows.{Window}
 use Rattle.windows.specs.Scratch.{at, windowsAt}
 use Rattle.windows.proofs.Reading.{windows-same, windows-shifted, windows-length}
-use Rattle.subtree.specs.Answer.{Answer, combined, answer}
+use Rattle.subtree.specs.Answer.{Answer, slotWindow, slotWindows, combined, answer}
 use Rattle.subtree.specs.Stretch.{ownPlaces, places, answerAt, Solved, Halves, Within, Solvable, Planned, LeafSolved, Combinable, CombinedAt}
 use Rattle.subtree.proofs.Places.{places-above, own-first}
 use Rattle.subtree.proofs.Lent.{in-part, before-part}
+use Rattle.subtree.proofs.Slots.{window-at}
 use Rattle.subtree.proofs.Answers.{Bounded, answer-bounded, within-take, within-drop}
 
 -- the answer of the node at the top
-pub solved-top : (band height : ℕ) (setpoints : List ℤ) (read : ℕ → ℕ) → Solved band height setpoints read → answerAt read 0 ≡ answer band height setpoints
+pub solved-top : (height : ℕ) (leaves : List Window) (read : ℕ → ℕ) → Solved height leaves read → answerAt read 0 ≡ answer height leaves
 unfolding Solved
-solved-top band zero setpoints read solved = solved
-solved-top band (suc height) setpoints read solved = solved .0
+solved-top zero leaves read solved = solved
+solved-top (suc height) leaves read solved = solved .0
 
 -- how many windows stand at a place, by the answer there
 pub count-of : (read : ℕ → ℕ) (place : ℕ) (one : Answer) → answerAt read place ≡ one → read (place + 1) ≡ length (one .windows)
@@ -43,41 +44,41 @@ answer-shifted read start =
     rw (windows-shifted read start (0 + 2) (read (start + (0 + 1))), here, first)
 
 -- a stretch is solved by the numbers of its places alone
-top-same : (band height : ℕ) (setpoints : List ℤ) (read other : ℕ → ℕ) → ((place : ℕ) → place < places height → read place ≡ other place)
-    → answerAt read 0 ≡ answer band height setpoints → answerAt other 0 ≡ answer band height setpoints
-top-same band height setpoints read other same is =
-    let few : read 1 ≤ 2 ^ height = omega (arith, count-of read 0 (answer band height setpoints) is, answer-bounded band height setpoints .few) in
+top-same : (height : ℕ) (leaves : List Window) (read other : ℕ → ℕ) → ((place : ℕ) → place < places height → read place ≡ other place)
+    → answerAt read 0 ≡ answer height leaves → answerAt other 0 ≡ answer height leaves
+top-same height leaves read other same is =
+    let few : read 1 ≤ 2 ^ height = omega (arith, count-of read 0 (answer height leaves) is, answer-bounded height leaves .few) in
     sym (answer-same read other 0 (2 ^ height) few (λ k above below. same k (omega (arith, own-first height)))) ∙ is
 
-pub solved-same : (band height : ℕ) (setpoints : List ℤ) (read other : ℕ → ℕ) → ((place : ℕ) → place < places height → read place ≡ other place)
-    → Solved band height setpoints read → Solved band height setpoints other
+pub solved-same : (height : ℕ) (leaves : List Window) (read other : ℕ → ℕ) → ((place : ℕ) → place < places height → read place ≡ other place)
+    → Solved height leaves read → Solved height leaves other
 unfolding Solved
-solved-same band zero setpoints read other same solved = top-same band zero setpoints read other same solved
-solved-same band (suc height) setpoints read other same solved =
+solved-same zero leaves read other same solved = top-same zero leaves read other same solved
+solved-same (suc height) leaves read other same solved =
     let own : ℕ = ownPlaces (suc height) in (
-      top-same band (suc height) setpoints read other same (solved .0),
-      solved-same band height (take (2 ^ height) setpoints) (λ place. read (own + place)) (λ place. other (own + place))
+      top-same (suc height) leaves read other same (solved .0),
+      solved-same height (take (2 ^ height) leaves) (λ place. read (own + place)) (λ place. other (own + place))
           (λ place inside. same (own + place) (omega (arith, places-above height))) (solved .1),
-      solved-same band height (drop (2 ^ height) setpoints) (λ place. read (own + places height + place)) (λ place. other (own + places height + place))
+      solved-same height (drop (2 ^ height) leaves) (λ place. read (own + places height + place)) (λ place. other (own + places height + place))
           (λ place inside. same (own + places height + place) (omega (arith, places-above height))) (solved .2),
     )
 
 -- the answers of the two children in the stretch of the node above them
-pub child-answer : (band height start : ℕ) (setpoints : List ℤ) (read : ℕ → ℕ) → Solved band height setpoints (λ place. read (start + place))
-    → answerAt read start ≡ answer band height setpoints
-child-answer band height start setpoints read solved = sym (answer-shifted read start) ∙ solved-top band height setpoints (λ place. read (start + place)) solved
+pub child-answer : (height start : ℕ) (leaves : List Window) (read : ℕ → ℕ) → Solved height leaves (λ place. read (start + place))
+    → answerAt read start ≡ answer height leaves
+child-answer height start leaves read solved = sym (answer-shifted read start) ∙ solved-top height leaves (λ place. read (start + place)) solved
 
 -- the answers of both children stand in one stretch, each a part of it
-module _ (band height own middle : ℕ) (setpoints both : List ℤ) (halves : Halves band height own middle setpoints both) where
+module _ (height own middle : ℕ) (leaves : List Window) (both : List ℤ) (halves : Halves height own middle leaves both) where
   left-bounded : Bounded (2 ^ height) (answerAt (at both) own)
   left-bounded =
-      subst (Bounded (2 ^ height)) (sym (child-answer band height own (take (2 ^ height) setpoints) (at both) (halves .left-solved)))
-      (answer-bounded band height (take (2 ^ height) setpoints))
+      subst (Bounded (2 ^ height)) (sym (child-answer height own (take (2 ^ height) leaves) (at both) (halves .left-solved)))
+      (answer-bounded height (take (2 ^ height) leaves))
 
   right-bounded : Bounded (2 ^ height) (answerAt (at both) middle)
   right-bounded =
-      subst (Bounded (2 ^ height)) (sym (child-answer band height middle (drop (2 ^ height) setpoints) (at both) (halves .right-solved)))
-      (answer-bounded band height (drop (2 ^ height) setpoints))
+      subst (Bounded (2 ^ height)) (sym (child-answer height middle (drop (2 ^ height) leaves) (at both) (halves .right-solved)))
+      (answer-bounded height (drop (2 ^ height) leaves))
 
   -- they can be combined
   pub combinable : own ≡ ownPlaces (suc height) → middle ≡ own + places height → middle + places height ≤ length both → height ≤ 8 → Combinable both own middle
@@ -95,21 +96,21 @@ module _ (band height own middle : ℕ) (setpoints both : List ℤ) (halves : Ha
 
   -- and once they are, the stretch is solved
   pub node-solved : (after : List ℤ) → own ≡ ownPlaces (suc height) → middle ≡ own + places height → CombinedAt both after own middle
-      → Solved band (suc height) setpoints (at after)
+      → Solved (suc height) leaves (at after)
   unfolding Solved answer
   node-solved after own-is middle-is combined-at =
-      let left-is = child-answer band height own (take (2 ^ height) setpoints) (at both) (halves .left-solved) in
-      let right-is = child-answer band height middle (drop (2 ^ height) setpoints) (at both) (halves .right-solved) in (
+      let left-is = child-answer height own (take (2 ^ height) leaves) (at both) (halves .left-solved) in
+      let right-is = child-answer height middle (drop (2 ^ height) leaves) (at both) (halves .right-solved) in (
         combined-at .answer-is ∙ ap₂ combined left-is right-is,
-        solved-same band height (take (2 ^ height) setpoints) (λ place. at both (own + place)) (λ place. at after (ownPlaces (suc height) + place))
+        solved-same height (take (2 ^ height) leaves) (λ place. at both (own + place)) (λ place. at after (ownPlaces (suc height) + place))
             (λ place inside. sym (combined-at .others-same (own + place) (omega arith)) ∙ ap (λ (start : ℕ). at after (start + place)) own-is) (halves .left-solved),
-        solved-same band height (drop (2 ^ height) setpoints) (λ place. at both (middle + place)) (λ place. at after (ownPlaces (suc height) + places height + place))
+        solved-same height (drop (2 ^ height) leaves) (λ place. at both (middle + place)) (λ place. at after (ownPlaces (suc height) + places height + place))
             (λ place inside. sym (combined-at .others-same (middle + place) (omega arith)) ∙ ap (λ (start : ℕ). at after (start + place)) (middle-is ∙ ap (λ (start : ℕ). start + places height) own-is))
             (halves .right-solved),
       )
 
 -- the two halves of a stretch after each was lent, solved, and came back
-module _ (band height half own middle end : ℕ) (setpoints scratch left right : List ℤ) (planned : Planned height half own middle end) (fits : end ≤ length scratch)
+module _ (height half own middle end : ℕ) (leaves : List Window) (scratch left right : List ℤ) (planned : Planned height half own middle end) (fits : end ≤ length scratch)
     (left-kept : length left ≡ length (take (middle - own) (drop own scratch)))
     (right-kept : length right ≡ length (take (end - middle) (drop middle (putMid own (middle - own) scratch left)))) where
   abbrev first-back : List ℤ
@@ -130,35 +131,33 @@ module _ (band height half own middle end : ℕ) (setpoints scratch left right :
   right-long : length right ≡ end - middle
   right-long = right-kept ∙ mid-len middle end first-back (omega (arith, first-length))
 
-  pub halves : Solved band (height - 1) (take half setpoints) (at left) → Solved band (height - 1) (take (length setpoints - half) (drop half setpoints)) (at right)
-      → Halves band (height - 1) own middle setpoints both-back
+  pub halves : Solved (height - 1) (take half leaves) (at left) → Solved (height - 1) (drop half leaves) (at right) → Halves (height - 1) own middle leaves both-back
   halves left-solved right-solved =
       let left-places : middle ≡ own + places (height - 1) = planned .middle-is in
       let right-places : end ≡ middle + places (height - 1) = planned .end-is in
       record {
         left-solved =
-            solved-same band (height - 1) (take (2 ^ (height - 1)) setpoints) (at left) (λ place. at both-back (own + place))
+            solved-same (height - 1) (take (2 ^ (height - 1)) leaves) (at left) (λ place. at both-back (own + place))
             (λ place inside.
             sym (before-part middle end first-back right (omega arith) (omega (arith, first-length)) right-long (own + place) (omega arith)
             ∙ in-part own middle scratch left (omega arith) (omega arith) left-long place (omega arith)))
-            (subst (λ (count : ℕ). Solved band (height - 1) (take count setpoints) (at left)) (planned .half-is) left-solved);
+            (subst (λ (count : ℕ). Solved (height - 1) (take count leaves) (at left)) (planned .half-is) left-solved);
         right-solved =
-            solved-same band (height - 1) (drop (2 ^ (height - 1)) setpoints) (at right) (λ place. at both-back (middle + place))
+            solved-same (height - 1) (drop (2 ^ (height - 1)) leaves) (at right) (λ place. at both-back (middle + place))
             (λ place inside. sym (in-part middle end first-back right (omega arith) (omega (arith, first-length)) right-long place (omega arith)))
-            (subst (λ (count : ℕ). Solved band (height - 1) (drop count setpoints) (at right)) (planned .half-is)
-            (subst (λ (list : List ℤ). Solved band (height - 1) list (at right)) (to-end half setpoints) right-solved));
+            (subst (λ (count : ℕ). Solved (height - 1) (drop count leaves) (at right)) (planned .half-is) right-solved);
       }
 
 -- once the answers of both children are combined, the whole stretch is solved
-module _ (band height half own middle end : ℕ) (setpoints both : List ℤ) (planned : Planned height half own middle end) (of-halves : Halves band (height - 1) own middle setpoints both) where
-  pub whole-solved : (after : List ℤ) → CombinedAt both after own middle → Solved band height setpoints (at after)
+module _ (height half own middle end : ℕ) (leaves : List Window) (both : List ℤ) (planned : Planned height half own middle end) (of-halves : Halves (height - 1) own middle leaves both) where
+  pub whole-solved : (after : List ℤ) → CombinedAt both after own middle → Solved height leaves (at after)
   whole-solved after combined-at =
-      subst (λ (levels : ℕ). Solved band levels setpoints (at after)) (sym (planned .below))
-      (node-solved band (height - 1) own middle setpoints both of-halves after (planned .own-is ∙ ap ownPlaces (planned .below)) (planned .middle-is) combined-at)
+      subst (λ (levels : ℕ). Solved levels leaves (at after)) (sym (planned .below))
+      (node-solved (height - 1) own middle leaves both of-halves after (planned .own-is ∙ ap ownPlaces (planned .below)) (planned .middle-is) combined-at)
 
   pub halves-combinable : height ≤ 9 → end ≤ length both → Combinable both own middle
   halves-combinable in-tree fits =
-      combinable band (height - 1) own middle setpoints both of-halves (planned .own-is ∙ ap ownPlaces (planned .below)) (planned .middle-is)
+      combinable (height - 1) own middle leaves both of-halves (planned .own-is ∙ ap ownPlaces (planned .below)) (planned .middle-is)
       (omega (arith, planned .end-is)) (omega arith)
 
 -- what solving asks of each half
@@ -183,7 +182,8 @@ module _ (band height half own middle end : ℕ) (setpoints scratch : List ℤ) 
   }
 
 -- a leaf's stretch is solved by its answer
-pub leaf-whole : (band height : ℕ) (setpoints after : List ℤ) → height ≤ 0 → LeafSolved band (getD setpoints 0 (pos 0)) after → Solved band height setpoints (at after)
+pub leaf-whole : (band height : ℕ) (setpoints after : List ℤ) → height ≤ 0 → 0 < length setpoints → LeafSolved (slotWindow band (getD setpoints 0 (pos 0))) after
+    → Solved height (slotWindows band setpoints) (at after)
 unfolding Solved answer
-leaf-whole band zero setpoints after none leaf = leaf .answer-is
-leaf-whole band (suc height) setpoints after none leaf = absurd (omega arith)
+leaf-whole band zero setpoints after none some leaf = leaf .answer-is ∙ ap (λ (window : Window). answer 0 (window ∷ [])) (sym (window-at band setpoints 0 some))
+leaf-whole band (suc height) setpoints after none some leaf = absurd (omega arith)

@@ -1,8 +1,8 @@
 -- The bottom-up pass of document 000, section 6.1: a node's answer from the answers of its two children. A reader of the promises need not open this file.
 -- `proofs/Rows.antt` shows that an answer is what the theory of fewest terms says of its node: `answer-row`.
-use mathlib.Core.List.{List, [], _∷_}
+use mathlib.Core.List.{List, [], _∷_, map}
 use Prim.Native.Nat.{ℕ, zero, suc, _+_, _-_, _^_, min}
-use lib.IntN.{ℤ, pos}
+use lib.IntN.{ℤ}
 use lib.ListN.{getD, take, drop}
 use Rattle.fewest.specs.Node.{missed}
 use Rattle.claims.specs.Inner.{lifted}
@@ -14,8 +14,16 @@ pub record Answer : Type 0 where
   pub windows : List Window
 
 -- the values within a band of a slot's setpoint
-abbrev pub slotWindow : ℕ → ℕ → Window
-slotWindow band setpoint = record { low = setpoint - band; high = min (setpoint + band) 40000 }
+abbrev pub slotWindow : ℕ → ℤ → Window
+slotWindow band setpoint = record { low = lifted setpoint - band; high = min (lifted setpoint + band) 40000 }
+
+-- how slots enter the bottom-up pass: by their windows, one after the other
+abbrev pub slotWindows : ℕ → List ℤ → List Window
+slotWindows band setpoints = map (slotWindow band) setpoints
+
+-- every value: the window of a leaf that no slot stands at
+abbrev pub everyValue : Window
+everyValue = record { low = 0; high = 40000 }
 
 -- what is in both sets where they meet; else what is in either, at the price of one term more
 abbrev pub combinedBy : List Window → Answer → Answer → Answer
@@ -25,11 +33,15 @@ combinedBy (window ∷ windows) left right = record { number = left .number + ri
 abbrev pub combined : Answer → Answer → Answer
 combined left right = combinedBy (meet (left .windows) (right .windows)) left right
 
--- the answer for a subtree of a height over its setpoints
-unfoldable pub answer : ℕ → ℕ → List ℤ → Answer
-answer band zero setpoints = record { number = 0; windows = slotWindow band (lifted (getD setpoints 0 (pos 0))) ∷ [] }
-answer band (suc height) setpoints = combined (answer band height (take (2 ^ height) setpoints)) (answer band height (drop (2 ^ height) setpoints))
+-- the answer for a subtree of a height over the windows of its leaves
+unfoldable pub answer : ℕ → List Window → Answer
+answer zero leaves = record { number = 0; windows = getD leaves 0 everyValue ∷ [] }
+answer (suc height) leaves = combined (answer height (take (2 ^ height) leaves)) (answer height (drop (2 ^ height) leaves))
 
 -- the terms that a subtree needs with a value coming in: its number, and one more where the value is not among its best ones
 abbrev pub needed : Answer → ℕ → ℕ
 needed answer value = answer .number + missed (covers (answer .windows) value)
+
+-- the terms that a tree over setpoints needs for a band, where a value comes in at the root
+abbrev pub termsFor : (band height : ℕ) → List ℤ → (value : ℕ) → ℕ
+termsFor band height setpoints value = needed (answer height (slotWindows band setpoints)) value

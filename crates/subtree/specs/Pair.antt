@@ -2,17 +2,17 @@
 -- The node's answer stands at places 0 to 5 of the stretch, the leaves' answers at 6 to 9 and at 10 to 13.
 use mathlib.Core.Path.{_≡_}
 use mathlib.Core.List.{List, [], _∷_}
-use Prim.Native.Nat.{ℕ, _+_, _-_, _≤_, _<_, min}
+use Prim.Native.Nat.{ℕ, _+_, _≤_, _<_}
 use lib.IntN.{ℤ}
-use Rattle.claims.specs.Inner.{lifted}
+use Rattle.windows.specs.Windows.{Window}
 use Rattle.windows.specs.Scratch.{at}
-use Rattle.subtree.specs.Answer.{Answer, combined}
+use Rattle.subtree.specs.Answer.{Answer, slotWindow, combined}
 use Rattle.subtree.specs.Stretch.{answerAt, Solved}
 
 -- the ends of a slot's window
 pub record SlotEnds (band : ℕ) (setpoint : ℤ) (low high : ℕ) : Type 0 where
-  pub low-is : low ≡ lifted setpoint - band
-  pub high-is : high ≡ min (lifted setpoint + band) 40000
+  pub low-is : low ≡ slotWindow band setpoint .low
+  pub high-is : high ≡ slotWindow band setpoint .high
   pub low-small : low ≤ 40000
 
 -- the answer of no term and one window
@@ -37,5 +37,5 @@ pub record LeavesCombined (leftLow leftHigh rightLow rightHigh : ℕ) (before af
   pub behind-same : (other : ℕ) → 6 ≤ other → at after other ≡ at before other
 
 -- the answers of two leaves and of the node above them
-pub record PairSolved (band : ℕ) (left right : ℤ) (scratch : List ℤ) : Type 0 where
-  pub all-solved : Solved band 1 (left ∷ right ∷ []) (at scratch)
+pub record PairSolved (left right : Window) (scratch : List ℤ) : Type 0 where
+  pub all-solved : Solved 1 (left ∷ right ∷ []) (at scratch)

@@ -5,8 +5,9 @@ use mathlib.Core.List.{List, [], _∷_}
 use Prim.Native.Nat.{ℕ, zero, suc, _+_, _*_, _-_, _^_, _≤_, _<_}
 use lib.IntN.{ℤ, pos, natAbs}
 use lib.ListN.{length, getD, take, drop}
+use Rattle.windows.specs.Windows.{Window, Sorted}
 use Rattle.windows.specs.Scratch.{at, windowsAt}
-use Rattle.subtree.specs.Answer.{Answer, combined, answer, needed}
+use Rattle.subtree.specs.Answer.{Answer, everyValue, combined, answer, needed}
 
 -- the places of the top's own answer
 abbrev pub ownPlaces : ℕ → ℕ
@@ -22,17 +23,21 @@ abbrev pub answerAt : (ℕ → ℕ) → ℕ → Answer
 answerAt read place = record { number = read place; windows = windowsAt read (place + 2) (read (place + 1)) }
 
 -- the stretch holds the answer of every node of the subtree
-unfoldable pub Solved : ℕ → ℕ → List ℤ → (ℕ → ℕ) → Type 0
-Solved band zero setpoints read = answerAt read 0 ≡ answer band zero setpoints
-Solved band (suc height) setpoints read =
-    (answerAt read 0 ≡ answer band (suc height) setpoints)
-    × Solved band height (take (2 ^ height) setpoints) (λ place. read (ownPlaces (suc height) + place))
-    × Solved band height (drop (2 ^ height) setpoints) (λ place. read (ownPlaces (suc height) + places height + place))
+unfoldable pub Solved : ℕ → List Window → (ℕ → ℕ) → Type 0
+Solved zero leaves read = answerAt read 0 ≡ answer zero leaves
+Solved (suc height) leaves read =
+    (answerAt read 0 ≡ answer (suc height) leaves)
+    × Solved height (take (2 ^ height) leaves) (λ place. read (ownPlaces (suc height) + place))
+    × Solved height (drop (2 ^ height) leaves) (λ place. read (ownPlaces (suc height) + places height + place))
 
 -- the stretches of a node's two children are solved, in the node's stretch
-pub record Halves (band height own middle : ℕ) (setpoints scratch : List ℤ) : Type 0 where
-  pub left-solved : Solved band height (take (2 ^ height) setpoints) (λ place. at scratch (own + place))
-  pub right-solved : Solved band height (drop (2 ^ height) setpoints) (λ place. at scratch (middle + place))
+pub record Halves (height own middle : ℕ) (leaves : List Window) (scratch : List ℤ) : Type 0 where
+  pub left-solved : Solved height (take (2 ^ height) leaves) (λ place. at scratch (own + place))
+  pub right-solved : Solved height (drop (2 ^ height) leaves) (λ place. at scratch (middle + place))
+
+-- windows that hold a value each, and none above 40,000
+pub record Usable (leaves : List Window) : Type 0 where
+  pub each : (leaf : ℕ) → Sorted 0 (getD leaves leaf everyValue ∷ [])
 
 -- every setpoint within ±20,000
 pub record Within (setpoints : List ℤ) : Type 0 where
@@ -64,8 +69,8 @@ pub record Headed (number count : ℕ) (before after : List ℤ) : Type 0 where
   pub others-same : (place : ℕ) → 2 ≤ place → at after place ≡ at before place
 
 -- the answer of a leaf
-pub record LeafSolved (band : ℕ) (setpoint : ℤ) (scratch : List ℤ) : Type 0 where
-  pub answer-is : answerAt (at scratch) 0 ≡ answer band 0 (setpoint ∷ [])
+pub record LeafSolved (leaf : Window) (scratch : List ℤ) : Type 0 where
+  pub answer-is : answerAt (at scratch) 0 ≡ answer 0 (leaf ∷ [])
 
 -- the answers of two children in one stretch, and room for the answer of the node above them
 pub record Combinable (scratch : List ℤ) (left right : ℕ) : Type 0 where
@@ -80,7 +85,7 @@ pub record CombinedAt (before after : List ℤ) (left right : ℕ) : Type 0 wher
   pub answer-is : answerAt (at after) 0 ≡ combined (answerAt (at before) left) (answerAt (at before) right)
   pub others-same : (place : ℕ) → left ≤ place → at after place ≡ at before place
 
--- the terms that the tree needs for a band, with every answer in scratch
-pub record Counted (band height value : ℕ) (setpoints scratch : List ℤ) (count : ℕ) : Type 0 where
-  pub count-is : count ≡ needed (answer band height setpoints) value
-  pub solved : Solved band height setpoints (at scratch)
+-- the terms that the tree needs over its leaves, with every answer in scratch
+pub record Counted (height value : ℕ) (leaves : List Window) (scratch : List ℤ) (count : ℕ) : Type 0 where
+  pub count-is : count ≡ needed (answer height leaves) value
+  pub solved : Solved height leaves (at scratch)

@@ -8,6 +8,7 @@ ghost use mathlib.Core.Path.{_≡_};
 ghost use Prim.Native.Nat.{_+_, _-_, _≤_, min};
 ghost use lib.IntN.{natAbs};
 ghost use lib.ListN.{length};
+ghost use Rattle.subtree.specs.Answer.{slotWindow, slotWindows};
 ghost use Rattle.subtree.specs.Stretch.{Solvable, Halves, LeafSolved};
 ghost use Rattle.subtree.specs.Pair.{SlotEnds, SingleAt, DoubleWritten, LeavesCombined, PairSolved};
 
@@ -74,7 +75,7 @@ fn write_double(scratch: &mut [i16], first: Ends, second: Ends)
 // The answer of a leaf: no term, and the values within the band of its setpoint.
 pub fn write_leaf(setpoint: i16, band: usize, scratch: &mut [i16])
     requires { ⌜ (natAbs setpoint ≤ 20000) × (band ≤ 40000) × (4 ≤ length (now scratch)) ⌝ }
-    ensures { λ _. ⌜ LeafSolved band setpoint (now (scratch .exit)) ⌝ }
+    ensures { λ _. ⌜ LeafSolved (slotWindow band setpoint) (now (scratch .exit)) ⌝ }
 {
     write_single(scratch, 0, slot_ends(setpoint, band));
 }
@@ -105,7 +106,7 @@ fn combine_leaves(scratch: &mut [i16], left: Ends, right: Ends)
 // The answers of two leaves and of the node above them.
 pub fn write_pair(left: i16, right: i16, band: usize, scratch: &mut [i16])
     requires { ⌜ (natAbs left ≤ 20000) × (natAbs right ≤ 20000) × (band ≤ 40000) × (14 ≤ length (now scratch)) ⌝ }
-    ensures { λ _. ⌜ PairSolved band left right (now (scratch .exit)) ⌝ }
+    ensures { λ _. ⌜ PairSolved (slotWindow band left) (slotWindow band right) (now (scratch .exit)) ⌝ }
 {
     let left_ends = slot_ends(left, band);
     let right_ends = slot_ends(right, band);
@@ -118,7 +119,7 @@ pub fn write_pair(left: i16, right: i16, band: usize, scratch: &mut [i16])
 // Most calls of the recursion would be for a single pair: this spares them.
 pub fn write_pairs(setpoints: &[i16], band: usize, scratch: &mut [i16])
     requires { ⌜ Solvable band 2 (now setpoints) (now scratch) ⌝ }
-    ensures { λ _. ⌜ Halves band 1 10 24 (now (setpoints .entry)) (now (scratch .exit)) ⌝ }
+    ensures { λ _. ⌜ Halves 1 10 24 (slotWindows band (now (setpoints .entry))) (now (scratch .exit)) ⌝ }
 {
     write_pair(setpoints[0], setpoints[1], band, &mut scratch[10..24]);
     write_pair(setpoints[2], setpoints[3], band, &mut scratch[24..38]);

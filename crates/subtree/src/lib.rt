@@ -16,6 +16,7 @@ ghost use lib.IntN.{natAbs};
 ghost use lib.ListN.{length};
 ghost use Rattle.claims.specs.Inner.{lifted};
 ghost use Rattle.windows.specs.Scratch.{at};
+ghost use Rattle.subtree.specs.Answer.{slotWindows};
 ghost use Rattle.subtree.specs.Stretch.{places, Solvable, Solved, Planned, Combinable, CombinedAt, Headed, Counted};
 
 // The places of a stretch, by the height of its subtree and its number of slots.
@@ -95,7 +96,7 @@ fn combine(scratch: &mut [i16], left: usize, right: usize)
 // Fills a stretch with the answer of every node of a subtree over its setpoints.
 pub fn solve(setpoints: &[i16], band: usize, scratch: &mut [i16], height: usize)
     requires { ⌜ Solvable band height (now setpoints) (now scratch) ⌝ }
-    ensures { λ _. ⌜ Solved band height (now (setpoints .entry)) (at (now (scratch .exit))) ⌝ }
+    ensures { λ _. ⌜ Solved height (slotWindows band (now (setpoints .entry))) (at (now (scratch .exit))) ⌝ }
 {
     if 1 < height {
         let parts = plan(height);
@@ -136,7 +137,7 @@ pub fn count_terms(
     height: usize,
 ) -> usize
     requires { ⌜ Solvable band height (now setpoints) (now scratch) ⌝ }
-    ensures { λ r. ⌜ Counted band height value (now (setpoints .entry)) (now (scratch .exit)) r ⌝ }
+    ensures { λ r. ⌜ Counted height value (slotWindows band (now (setpoints .entry))) (now (scratch .exit)) r ⌝ }
 {
     solve(setpoints, band, scratch, height);
     let number = load(scratch, 0);

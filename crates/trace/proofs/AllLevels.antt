@@ -22,39 +22,39 @@ module _ {scratch : List ℤ} {height value : ℕ} {nodes : List ℕ} {values : 
 
   -- the terms of the first levels
   abbrev upper : ℕ → List Term
-  upper levels = upperTerms (stretch .band) levels height (stretch .setpoints) value
+  upper levels = upperTerms levels height (stretch .leaves) value
 
   upper-fits : (levels : ℕ) → levels ≤ suc height → length (upper levels) ≤ length nodes
-  upper-fits levels in-tree = omega (arith, fits .room, fewer-levels (stretch .band) height (stretch .setpoints) value levels (suc height) in-tree)
+  upper-fits levels in-tree = omega (arith, fits .room, fewer-levels height (stretch .leaves) value levels (suc height) in-tree)
 
-  -- they are the same for all setpoints whose answers the stretch holds
+  -- they are the same for all leaves whose answers the stretch holds
   for-each : (levels first : ℕ) {nodes′ : List ℕ} {values′ : List ℤ} {count : ℕ} → min levels (suc height) ≡ first → Traced (upper first) nodes nodes′ values values′ count
       → UpperTraced levels scratch height value nodes nodes′ values values′ count
   for-each levels first first-is traced = record {
-    each = λ band setpoints solved.
-        rw (first-is, same-upper band (stretch .band) first height setpoints (stretch .setpoints) (at scratch) value solved (stretch .solved)) traced;
+    each = λ leaves solved.
+        rw (first-is, same-upper first height leaves (stretch .leaves) (at scratch) value solved (stretch .solved)) traced;
   }
 
   -- those that are written so far
   so-far : {levels : ℕ} {nodes′ : List ℕ} {values′ : List ℤ} {count : ℕ} (first : ℕ) → min levels (suc height) ≡ first
       → UpperTraced levels scratch height value nodes nodes′ values values′ count → Traced (upper first) nodes nodes′ values values′ count
-  so-far first first-is traced = rw first-is at (traced .each (stretch .band) (stretch .setpoints) (stretch .solved))
+  so-far first first-is traced = rw first-is at (traced .each (stretch .leaves) (stretch .solved))
 
   -- the slices are as long as before
   pub upper-long : {levels : ℕ} {nodes′ : List ℕ} {values′ : List ℤ} {count : ℕ} → UpperTraced levels scratch height value nodes nodes′ values values′ count
       → (length nodes′ ≡ length nodes) × (length values′ ≡ length nodes)
   upper-long {levels} traced =
-      traced-long (traced .each (stretch .band) (stretch .setpoints) (stretch .solved)) (upper-fits (min levels (suc height)) (omega arith)) (fits .same-room)
+      traced-long (traced .each (stretch .leaves) (stretch .solved)) (upper-fits (min levels (suc height)) (omega arith)) (fits .same-room)
 
   module _ {next : ℕ} (next-is : next ≡ handedOn (setAt scratch 0) value) where
-    root-handed : next ≡ handedOn (setOf (stretch .band) height (stretch .setpoints)) value
+    root-handed : next ≡ handedOn (setOf height (stretch .leaves)) value
     root-handed = next-is ∙ ap (λ (one : Answer). handedOn (one .windows) value) (top-is stretch)
 
     -- the root
     root-term : upper 1 ≡ withTerm 1 (change value next) []
     unfolding upperTerms
     root-term =
-        own-term (stretch .band) height (stretch .setpoints-within) 1 value ∙ ap (λ (handed : ℕ). withTerm 1 (change value handed) []) (sym root-handed)
+        own-term height (stretch .usable) 1 value ∙ ap (λ (handed : ℕ). withTerm 1 (change value handed) []) (sym root-handed)
 
     pub root-fits : TermFits 1 value next nodes values 0
     root-fits = record {
@@ -76,16 +76,16 @@ module _ {scratch : List ℤ} {height value : ℕ} {nodes : List ℕ} {values : 
       long : (length nodes′ ≡ length nodes) × (length values′ ≡ length nodes)
       long = traced-long traced (upper-fits depth (omega arith)) (fits .same-room)
 
-      next-level : upper (suc depth) ≡ upper depth ++ levelTerms (stretch .band) depth height (stretch .setpoints) 1 next
+      next-level : upper (suc depth) ≡ upper depth ++ levelTerms depth height (stretch .leaves) 1 next
       unfolding upperTerms
       next-level =
           ap (λ (terms : List Term). upper depth ++ terms)
-          (terms-below (stretch .band) depth height (stretch .setpoints-within) deeper 1 value ∙ ap (levelTerms (stretch .band) depth height (stretch .setpoints) 1) (sym root-handed))
+          (terms-below depth height (stretch .usable) deeper 1 value ∙ ap (levelTerms depth height (stretch .leaves) 1) (sym root-handed))
 
       -- is called with room for its terms
       pub level-fits : LevelFits scratch height depth 1 next nodes′ values′ count
       level-fits =
-          let both : length (upper depth) + length (levelTerms (stretch .band) depth height (stretch .setpoints) 1 next) ≤ length nodes =
+          let both : length (upper depth) + length (levelTerms depth height (stretch .leaves) 1 next) ≤ length nodes =
           simp length-append at (rw next-level at (upper-fits (suc depth) (omega arith))) in
           record {
             stretch = stretch;
@@ -100,7 +100,7 @@ module _ {scratch : List ℤ} {height value : ℕ} {nodes : List ℕ} {values : 
           → UpperTraced (depth + 1) scratch height value nodes nodes″ values values″ more
       level-more level =
           for-each (depth + 1) (suc depth) (omega arith)
-          (rw next-level (traced-further (upper-fits depth (omega arith)) (fits .same-room) traced (level .each (stretch .band) (stretch .setpoints) (stretch .solved))))
+          (rw next-level (traced-further (upper-fits depth (omega arith)) (fits .same-room) traced (level .each (stretch .leaves) (stretch .solved))))
 
     -- a turn of the loop
     module _ {depth : ℕ} (deeper : 2 ≤ depth) (inside : depth ≤ height) {nodes′ : List ℕ} {values′ : List ℤ} {count : ℕ}
@@ -117,7 +117,7 @@ module _ {scratch : List ℤ} {height value : ℕ} {nodes : List ℕ} {values : 
       → LevelsTraced scratch height value nodes nodes′ values values′ count
   all-levels {depth} past traced =
       let all : min depth (suc height) ≡ suc height = omega arith in
-      record { each = λ band setpoints solved. rw all at (traced .each band setpoints solved) }
+      record { each = λ leaves solved. rw all at (traced .each leaves solved) }
 
 -- whatever the terms of the first two levels were written over, those of the first `depth` levels now are
 pub record LevelsSince (scratch : List ℤ) (height value : ℕ) (nodes nodes′ : List ℕ) (values values′ : List ℤ) (top count depth : ℕ) : Type 0 where

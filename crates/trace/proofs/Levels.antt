@@ -15,7 +15,7 @@ use Rattle.windows.specs.Windows.{Window, covers}
 use Rattle.windows.specs.Scratch.{at}
 use Rattle.windows.proofs.Sets.{covers-within}
 use Rattle.subtree.specs.Answer.{Answer, answer}
-use Rattle.subtree.specs.Stretch.{Within, Planned}
+use Rattle.subtree.specs.Stretch.{Usable, Planned}
 use Rattle.subtree.proofs.Answers.{answer-sorted, answer-bounded}
 use Rattle.trace.specs.Trace.{change, handedOn, levelTerms, setAt, SolvedStretch, HandedDown, TermFits, LevelFits, Appended, LevelTraced}
 use Rattle.trace.proofs.Chosen.{handed-on-inside, handed-on-in-set, handed-on-twice, choice-is-change}
@@ -26,39 +26,39 @@ use Rattle.trace.proofs.Traced.{none-appended, appended-long, appended-
 -- ---- the value that a node hands on
 
 -- the set of an answer
-abbrev pub setOf : ℕ → ℕ → List ℤ → List Window
-setOf band height setpoints = answer band height setpoints .windows
+abbrev pub setOf : ℕ → List Window → List Window
+setOf height leaves = answer height leaves .windows
 
-module _ (band height : ℕ) {setpoints : List ℤ} (within : Within setpoints) (node value : ℕ) where
+module _ (height : ℕ) {leaves : List Window} (within : Usable leaves) (node value : ℕ) where
   -- the node's own term is what changes the value
-  pub own-term : levelTerms band 0 height setpoints node value ≡ withTerm node (change value (handedOn (setOf band height setpoints) value)) []
+  pub own-term : levelTerms 0 height leaves node value ≡ withTerm node (change value (handedOn (setOf height leaves) value)) []
   unfolding levelTerms
   own-term =
       ap (λ (term : Option ℕ). withTerm node term [])
-      (choice-is-change (setOf band height setpoints) (answer-sorted within band height) (answer-bounded band height setpoints .some) value)
+      (choice-is-change (setOf height leaves) (answer-sorted within height) (answer-bounded height leaves .some) value)
 
 -- the terms below the node go by the value that it hands on
-pub terms-below : (band depth height : ℕ) {setpoints : List ℤ} → Within setpoints → 1 ≤ depth → (node value : ℕ)
-    → levelTerms band depth height setpoints node value ≡ levelTerms band depth height setpoints node (handedOn (setOf band height setpoints) value)
+pub terms-below : (depth height : ℕ) {leaves : List Window} → Usable leaves → 1 ≤ depth → (node value : ℕ)
+    → levelTerms depth height leaves node value ≡ levelTerms depth height leaves node (handedOn (setOf height leaves) value)
 unfolding levelTerms
-terms-below band zero height within deeper node value = absurd (omega arith)
-terms-below band (suc depth) zero within deeper node value = refl
-terms-below band (suc depth) (suc height) {setpoints} within deeper node value =
-    rw (handed-on-twice (setOf band (suc height) setpoints) (answer-sorted within band (suc height)) (answer-bounded band (suc height) setpoints .some) value)
+terms-below zero height within deeper node value = absurd (omega arith)
+terms-below (suc depth) zero within deeper node value = refl
+terms-below (suc depth) (suc height) {leaves} within deeper node value =
+    rw (handed-on-twice (setOf (suc height) leaves) (answer-sorted within (suc height)) (answer-bounded (suc height) leaves .some) value)
 
-module _ {height : ℕ} {scratch : List ℤ} (stretch : SolvedStretch height scratch) (value next : ℕ) (next-is : next ≡ handedOn (setOf (stretch .band) height (stretch .setpoints)) value) where
+module _ {height : ℕ} {scratch : List ℤ} (stretch : SolvedStretch height scratch) (value next : ℕ) (next-is : next ≡ handedOn (setOf height (stretch .leaves)) value) where
   -- that value is in the node's set
   pub handed-in-set : covers (setAt scratch 0) next ≡ true
   handed-in-set =
       subst (λ (one : Answer). covers (one .windows) next ≡ true) (sym (top-is stretch))
       (rw next-is
-      (handed-on-in-set (setOf (stretch .band) height (stretch .setpoints)) (answer-sorted (stretch .setpoints-within) (stretch .band) height)
-      (answer-bounded (stretch .band) height (stretch .setpoints) .some) value))
+      (handed-on-in-set (setOf height (stretch .leaves)) (answer-sorted (stretch .usable) height)
+      (answer-bounded height (stretch .leaves) .some) value))
 
   -- and at most 40,000
   pub handed-within : next ≤ 40000
   handed-within =
-      covers-within (setOf (stretch .band) height (stretch .setpoints)) 0 next (answer-sorted (stretch .setpoints-within) (stretch .band) height)
+      covers-within (setOf height (stretch .leaves)) 0 next (answer-sorted (stretch .usable) height)
       (subst T (sym (subst (λ (one : Answer). covers (one .windows) next ≡ true) (top-is stretch) handed-in-set)) tt)
 
 -- ---- the terms of a level
@@ -68,26 +68,26 @@ module _ {scratch : List ℤ} {height depth node value : ℕ} {nodes : List ℕ}
   stretch = fits .stretch
 
   abbrev terms : List Term
-  terms = levelTerms (stretch .band) depth height (stretch .setpoints) node value
+  terms = levelTerms depth height (stretch .leaves) node value
 
   pub node-small : node < 1024
   node-small = omega (arith, fits .node-within, pow-mono {i = 10 - depth} {j = 10} (omega arith))
 
-  in-top-set : covers (setOf (stretch .band) height (stretch .setpoints)) value ≡ true
+  in-top-set : covers (setOf height (stretch .leaves)) value ≡ true
   in-top-set = subst (λ (one : Answer). covers (one .windows) value ≡ true) (top-is stretch) (fits .in-set)
 
-  -- they are the same for all setpoints whose answers the stretch holds
+  -- they are the same for all leaves whose answers the stretch holds
   for-each : {nodes′ : List ℕ} {values′ : List ℤ} {count′ : ℕ} → Appended terms nodes nodes′ values values′ count count′
       → LevelTraced scratch height depth node value nodes nodes′ values values′ count count′
   for-each appended = record {
-    each = λ band setpoints solved. rw (same-level band (stretch .band) depth height setpoints (stretch .setpoints) (at scratch) node value solved (stretch .solved)) appended;
+    each = λ leaves solved. rw (same-level depth height leaves (stretch .leaves) (at scratch) node value solved (stretch .solved)) appended;
   }
 
   -- none where the node's number is 0
   pub none-below : at scratch 0 ≡ 0 → LevelTraced scratch height depth node value nodes nodes values values count count
   none-below none =
-      let number : answer (stretch .band) height (stretch .setpoints) .number ≡ 0 = sym (ap (λ (one : Answer). one .number) (top-is stretch)) ∙ none in
-      for-each (rw (no-terms (stretch .band) depth height node value (stretch .setpoints-within) number in-top-set) (none-appended nodes values count))
+      let number : answer height (stretch .leaves) .number ≡ 0 = sym (ap (λ (one : Answer). one .number) (top-is stretch)) ∙ none in
+      for-each (rw (no-terms depth height node value (stretch .usable) number in-top-set) (none-appended nodes values count))
 
   -- in two parts, one written behind the other
   module _ (left-terms right-terms : List Term) (both : terms ≡ left-terms ++ right-terms) where
@@ -132,24 +132,24 @@ module _ {scratch : List ℤ} {height depth below node value : ℕ} {nodes : Lis
 
   -- the terms below each child where a value comes in
   abbrev leftTerms : ℕ → List Term
-  leftTerms = levelTerms (whole .band) below (height - 1) (on-left .setpoints) (2 * node)
+  leftTerms = levelTerms below (height - 1) (on-left .leaves) (2 * node)
 
   abbrev rightTerms : ℕ → List Term
-  rightTerms = levelTerms (whole .band) below (height - 1) (on-right .setpoints) (2 * node + 1)
+  rightTerms = levelTerms below (height - 1) (on-right .leaves) (2 * node + 1)
 
   -- both children get the value that the node hands on
   both-terms : terms (descent .fits) ≡ leftTerms value ++ rightTerms value
   unfolding levelTerms
   both-terms =
-      let inside : covers (setOf (whole .band) (suc (height - 1)) (whole .setpoints)) value ≡ true =
-      subst (λ (of : ℕ). covers (setOf (whole .band) of (whole .setpoints)) value ≡ true) (descent .planned .below) (in-top-set (descent .fits)) in
-      ap₂ (λ (levels of : ℕ). levelTerms (whole .band) levels of (whole .setpoints) node value) (descent .deeper) (descent .planned .below)
-      ∙ ap (λ (next : ℕ). leftTerms next ++ rightTerms next) (handed-on-inside (setOf (whole .band) (suc (height - 1)) (whole .setpoints)) value inside)
+      let inside : covers (setOf (suc (height - 1)) (whole .leaves)) value ≡ true =
+      subst (λ (of : ℕ). covers (setOf of (whole .leaves)) value ≡ true) (descent .planned .below) (in-top-set (descent .fits)) in
+      ap₂ (λ (levels of : ℕ). levelTerms levels of (whole .leaves) node value) (descent .deeper) (descent .planned .below)
+      ∙ ap (λ (next : ℕ). leftTerms next ++ rightTerms next) (handed-on-inside (setOf (suc (height - 1)) (whole .leaves)) value inside)
 
-  pub left-handed : left ≡ handedOn (setOf (whole .band) (height - 1) (on-left .setpoints)) value
+  pub left-handed : left ≡ handedOn (setOf (height - 1) (on-left .leaves)) value
   left-handed = descent .handed .left-is ∙ ap (λ (one : Answer). handedOn (one .windows) value) (left-is (descent .planned) whole)
 
-  pub right-handed : right ≡ handedOn (setOf (whole .band) (height - 1) (on-right .setpoints)) value
+  pub right-handed : right ≡ handedOn (setOf (height - 1) (on-right .leaves)) value
   right-handed = descent .handed .right-is ∙ ap (λ (one : Answer). handedOn (one .windows) value) (right-is (descent .planned) whole)
 
   child-within : (child : ℕ) → child ≤ 2 * node + 1 → child < 2 ^ (10 - below)
@@ -164,8 +164,8 @@ module _ {scratch : List ℤ} {height depth below node value : ℕ} {nodes : Lis
     pub both-below : terms (descent .fits) ≡ leftTerms left ++ rightTerms right
     both-below =
         both-terms
-        ∙ ap₂ _++_ (terms-below (whole .band) below (height - 1) (on-left .setpoints-within) further (2 * node) value ∙ ap leftTerms (sym left-handed))
-        (terms-below (whole .band) below (height - 1) (on-right .setpoints-within) further (2 * node + 1) value ∙ ap rightTerms (sym right-handed))
+        ∙ ap₂ _++_ (terms-below below (height - 1) (on-left .usable) further (2 * node) value ∙ ap leftTerms (sym left-handed))
+        (terms-below below (height - 1) (on-right .usable) further (2 * node + 1) value ∙ ap rightTerms (sym right-handed))
 
     -- the left child is called with room for the terms below it
     pub left-fits : LevelFits (take (middle - own) (drop own scratch)) (height - 1) below (2 * node) left nodes values count
@@ -181,7 +181,7 @@ module _ {scratch : List ℤ} {height depth below node value : ℕ} {nodes : Lis
     module _ {nodes′ : List ℕ} {values′ : List ℤ} {first : ℕ}
         (traced : LevelTraced (take (middle - own) (drop own scratch)) (height - 1) below (2 * node) left nodes nodes′ values values′ count first) where
       abbrev left-traced : Appended (leftTerms left) nodes nodes′ values values′ count first
-      left-traced = traced .each (whole .band) (on-left .setpoints) (on-left .solved)
+      left-traced = traced .each (on-left .leaves) (on-left .solved)
 
       -- and so is the right child
       pub right-fits : LevelFits (take (end - middle) (drop middle scratch)) (height - 1) below (2 * node + 1) right nodes′ values′ first
@@ -199,7 +199,7 @@ module _ {scratch : List ℤ} {height depth below node value : ℕ} {nodes : Lis
           → LevelTraced (take (end - middle) (drop middle scratch)) (height - 1) below (2 * node + 1) right nodes′ nodes″ values′ values″ first second
           → LevelTraced scratch height depth node value nodes nodes″ values values″ count second
       level-traced right-traced =
-          both-traced (descent .fits) (leftTerms left) (rightTerms right) both-below left-traced (right-traced .each (whole .band) (on-right .setpoints) (on-right .solved))
+          both-traced (descent .fits) (leftTerms left) (rightTerms right) both-below left-traced (right-traced .each (on-right .leaves) (on-right .solved))
 
 -- ---- where it is the level of the children
 
@@ -215,8 +215,8 @@ module _ {scratch : List ℤ} {height node value : ℕ} {nodes : List ℕ} {valu
   both-own =
       both-terms descent
       ∙ ap₂ _++_
-      (own-term (whole descent .band) (height - 1) (on-left descent .setpoints-within) (2 * node) value ∙ ap (λ (next : ℕ). withTerm (2 * node) (change value next) []) (sym (left-handed descent)))
-      (own-term (whole descent .band) (height - 1) (on-right descent .setpoints-within) (2 * node + 1) value
+      (own-term (height - 1) (on-left descent .usable) (2 * node) value ∙ ap (λ (next : ℕ). withTerm (2 * node) (change value next) []) (sym (left-handed descent)))
+      (own-term (height - 1) (on-right descent .usable) (2 * node + 1) value
       ∙ ap (λ (next : ℕ). withTerm (2 * node + 1) (change value next) []) (sym (right-handed descent)))
 
   pub left-term-fits : TermFits (2 * node) value left nodes values count

@@ -12,8 +12,8 @@ use Rattle.windows.specs.Windows.{Window, covers, Sorted, meet}
 use Rattle.windows.specs.Scratch.{at}
 use Rattle.windows.proofs.Sets.{covers-meet, covers-join}
 use Rattle.subtree.specs.Answer.{Answer, combinedBy, combined, answer}
-use Rattle.subtree.specs.Stretch.{answerAt, Within}
-use Rattle.subtree.proofs.Answers.{apart, answer-sorted, within-take, within-drop}
+use Rattle.subtree.specs.Stretch.{answerAt, Usable}
+use Rattle.subtree.proofs.Answers.{apart, answer-sorted, usable-take, usable-drop}
 use Rattle.trace.specs.Trace.{levelTerms, setAt, Handing, HandedDown}
 use Rattle.trace.proofs.Chosen.{handed-on-inside, handed-on-outside, lowest-there}
 
@@ -102,20 +102,20 @@ module _ {scratch : List ℤ} {left right value : ℕ} (pre : Handing scratch le
         }
 
 -- where a subtree's number is 0 and the value that comes in is in the set of its top, no node of it has a term
-pub no-terms : (band depth height : ℕ) {setpoints : List ℤ} (node value : ℕ) → Within setpoints → answer band height setpoints .number ≡ 0
-    → covers (answer band height setpoints .windows) value ≡ true → levelTerms band depth height setpoints node value ≡ []
+pub no-terms : (depth height : ℕ) {leaves : List Window} (node value : ℕ) → Usable leaves → answer height leaves .number ≡ 0
+    → covers (answer height leaves .windows) value ≡ true → levelTerms depth height leaves node value ≡ []
 unfolding levelTerms answer
-no-terms band zero height node value within none inside = rw inside
-no-terms band (suc depth) zero node value within none inside = refl
-no-terms band (suc depth) (suc height) {setpoints} node value within none inside =
-    let left : Answer = answer band height (take (2 ^ height) setpoints) in
-    let right : Answer = answer band height (drop (2 ^ height) setpoints) in
-    let left-sorted = answer-sorted (within-take within (2 ^ height)) band height in
-    let right-sorted = answer-sorted (within-drop within (2 ^ height)) band height in
+no-terms zero height node value within none inside = rw inside
+no-terms (suc depth) zero node value within none inside = refl
+no-terms (suc depth) (suc height) {leaves} node value within none inside =
+    let left : Answer = answer height (take (2 ^ height) leaves) in
+    let right : Answer = answer height (drop (2 ^ height) leaves) in
+    let left-sorted = answer-sorted (usable-take within (2 ^ height)) height in
+    let right-sorted = answer-sorted (usable-drop within (2 ^ height)) height in
     let sum = sum-at-most left right left-sorted right-sorted value in
     let both = in-both left right left-sorted right-sorted value (omega arith) inside in
     rw (
       handed-on-inside (combined left right .windows) value inside,
-      no-terms band depth height (2 * node) value (within-take within (2 ^ height)) (omega arith) (both .0),
-      no-terms band depth height (2 * node + 1) value (within-drop within (2 ^ height)) (omega arith) (both .1),
+      no-terms depth height (2 * node) value (usable-take within (2 ^ height)) (omega arith) (both .0),
+      no-terms depth height (2 * node + 1) value (usable-drop within (2 ^ height)) (omega arith) (both .1),
     )

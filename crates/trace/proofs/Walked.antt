@@ -26,8 +26,8 @@ use Rattle.claims.proofs.Exists.{walkedTerms}
 use Rattle.windows.specs.Windows.{Window, covers, Sorted}
 use Rattle.windows.proofs.Sets.{first-within, first-inside, none-below}
 use Rattle.subtree.specs.Answer.{answer}
-use Rattle.subtree.specs.Stretch.{Within}
-use Rattle.subtree.proofs.Answers.{answer-sorted, answer-bounded, within-take, within-drop}
+use Rattle.subtree.specs.Stretch.{Usable}
+use Rattle.subtree.proofs.Answers.{answer-sorted, answer-bounded, usable-take, usable-drop}
 use Rattle.subtree.proofs.Rows.{Below, below-left, below-right, answer-row}
 use Rattle.trace.specs.Trace.{choice, handedOn, levelTerms, upperTerms}
 use Rattle.trace.proofs.Chosen.{handed-on-within}
@@ -70,67 +70,67 @@ module _ {profile : List ℤ} {rest : ℤ} (in-range : InRange profile rest) (ba
   abbrev termAt : ℕ → Option ℕ
   termAt = walked costOf (height (length profile)) (lifted rest)
 
-  -- a node at its place in the tree, with the setpoints below it and the value that comes in
-  record Reached (levels below node : ℕ) (setpoints : List ℤ) (value : ℕ) : Type 0 where
+  -- a node at its place in the tree, with the leaves below it and the value that comes in
+  record Reached (levels below node : ℕ) (leaves : List Window) (value : ℕ) : Type 0 where
     in-tree : levels + below ≡ height (length profile)
     from : 2 ^ levels ≤ node
     to : node < 2 ^ suc levels
-    setpoints-within : Within setpoints
-    setpoints-below : Below profile below node setpoints
+    usable : Usable leaves
+    leaves-below : Below (accepts profile band) below node leaves
     value-within : value ≤ 40000
     value-is : value ≡ incoming levels node
 
   -- the answer's set says what the walk chooses
-  chosen-there : {levels below node : ℕ} {setpoints : List ℤ} {value : ℕ} → Reached levels below node setpoints value
-      → choice (answer band below setpoints .windows) value ≡ chosen 40000 (costOf below node) value
-  chosen-there {levels} {below} {node} {setpoints} {value} reached =
-      choice-is-chosen (answer band below setpoints .windows) (answer-sorted (reached .setpoints-within) band below) (answer-bounded band below setpoints .some)
-      (answer-row band below node (reached .setpoints-within) (reached .setpoints-below)) value (reached .value-within)
+  chosen-there : {levels below node : ℕ} {leaves : List Window} {value : ℕ} → Reached levels below node leaves value
+      → choice (answer below leaves .windows) value ≡ chosen 40000 (costOf below node) value
+  chosen-there {levels} {below} {node} {leaves} {value} reached =
+      choice-is-chosen (answer below leaves .windows) (answer-sorted (reached .usable) below) (answer-bounded below leaves .some)
+      (answer-row (accepts profile band) below node (reached .usable) (reached .leaves-below)) value (reached .value-within)
 
   -- and that is the term that the walk leaves at the node
-  left-there : {levels below node : ℕ} {setpoints : List ℤ} {value : ℕ} → Reached levels below node setpoints value
-      → choice (answer band below setpoints .windows) value ≡ termAt node
-  left-there {levels} {below} {node} {setpoints} {value} reached =
+  left-there : {levels below node : ℕ} {leaves : List Window} {value : ℕ} → Reached levels below node leaves value
+      → choice (answer below leaves .windows) value ≡ termAt node
+  left-there {levels} {below} {node} {leaves} {value} reached =
       let level : levelOf node ≡ levels = level-only (level-rule node (omega (arith, pow-pos levels, reached .from))) (record { reached = reached .from; next-not = reached .to }) in
       let left : height (length profile) - levels ≡ below = omega (arith, reached .in-tree) in
       rw (level, left, ← reached .value-is) (chosen-there reached)
 
   -- a child is reached with the value that the node hands on
-  child-reached : {levels below node : ℕ} {setpoints : List ℤ} {value : ℕ} → Reached levels (suc below) node setpoints value
-      → (child : ℕ) {half : List ℤ} → child / 2 ≡ node → Within half → Below profile below child half
-      → Reached (suc levels) below child half (handedOn (answer band (suc below) setpoints .windows) value)
+  child-reached : {levels below node : ℕ} {leaves : List Window} {value : ℕ} → Reached levels (suc below) node leaves value
+      → (child : ℕ) {half : List Window} → child / 2 ≡ node → Usable half → Below (accepts profile band) below child half
+      → Reached (suc levels) below child half (handedOn (answer (suc below) leaves .windows) value)
   unfolding comesIn
-  child-reached {levels} {below} {node} {setpoints} {value} reached child above half-within half-below =
+  child-reached {levels} {below} {node} {leaves} {value} reached child above half-within half-below =
       let left : height (length profile) - levels ≡ suc below = omega (arith, reached .in-tree) in
       record {
         in-tree = omega (arith, reached .in-tree);
         from = omega (arith, reached .from);
         to = omega (arith, reached .to);
-        setpoints-within = half-within;
-        setpoints-below = half-below;
+        usable = half-within;
+        leaves-below = half-below;
         value-within =
-            handed-on-within (answer band (suc below) setpoints .windows) (answer-sorted (reached .setpoints-within) band (suc below)) (answer-bounded band (suc below) setpoints .some) value
+            handed-on-within (answer (suc below) leaves .windows) (answer-sorted (reached .usable) (suc below)) (answer-bounded (suc below) leaves .some) value
             (reached .value-within);
         value-is = rw (above, left, ← reached .value-is) (ap (λ (term : Option ℕ). placed term value) (chosen-there reached));
       }
 
   -- the terms of a level below a node are gathered from the walk
-  level-gathered : (depth : ℕ) {levels below node : ℕ} {setpoints : List ℤ} {value : ℕ} → Reached levels below node setpoints value → depth ≤ below
-      → levelTerms band depth below setpoints node value ≡ gathered termAt (node * 2 ^ depth) (2 ^ depth)
+  level-gathered : (depth : ℕ) {levels below node : ℕ} {leaves : List Window} {value : ℕ} → Reached levels below node leaves value → depth ≤ below
+      → levelTerms depth below leaves node value ≡ gathered termAt (node * 2 ^ depth) (2 ^ depth)
   unfolding levelTerms gathered
   level-gathered zero {node = node} reached shallow = rw (mul-one node) (ap (λ (term : Option ℕ). withTerm node term []) (left-there reached))
   level-gathered (suc depth) {below = zero} reached shallow = absurd (omega arith)
-  level-gathered (suc depth) {below = suc below} {node} {setpoints} reached shallow =
+  level-gathered (suc depth) {below = suc below} {node} {leaves} reached shallow =
       let first : 2 * node * 2 ^ depth ≡ node * 2 ^ suc depth = rw (mul-comm 2 node, mul-assoc, pow-succ') in
       let second : (2 * node + 1) * 2 ^ depth ≡ node * 2 ^ suc depth + 2 ^ depth = rw (add-mul, one-mul, first) in
       let whole : 2 ^ depth + 2 ^ depth ≡ 2 ^ suc depth = omega arith in
-      let left = child-reached reached (2 * node) (omega arith) (within-take (reached .setpoints-within) (2 ^ below)) (below-left (reached .setpoints-below)) in
-      let right = child-reached reached (2 * node + 1) (omega arith) (within-drop (reached .setpoints-within) (2 ^ below)) (below-right (reached .setpoints-below)) in
+      let left = child-reached reached (2 * node) (omega arith) (usable-take (reached .usable) (2 ^ below)) (below-left (reached .leaves-below)) in
+      let right = child-reached reached (2 * node + 1) (omega arith) (usable-drop (reached .usable) (2 ^ below)) (below-right (reached .leaves-below)) in
       rw (level-gathered depth left (omega arith), level-gathered depth right (omega arith), first, second, gathered-append, whole)
 
   -- the first levels together
-  levels-gathered : {setpoints : List ℤ} → Within setpoints → Below profile (height (length profile)) 1 setpoints → (count : ℕ) → count ≤ suc (height (length profile))
-      → upperTerms band count (height (length profile)) setpoints (lifted rest) ≡ gathered termAt 1 (2 ^ count - 1)
+  levels-gathered : {leaves : List Window} → Usable leaves → Below (accepts profile band) (height (length profile)) 1 leaves → (count : ℕ) → count ≤ suc (height (length profile))
+      → upperTerms count (height (length profile)) leaves (lifted rest) ≡ gathered termAt 1 (2 ^ count - 1)
   unfolding upperTerms gathered comesIn
   levels-gathered within below zero in-tree = refl
   levels-gathered within below (suc count) in-tree =
@@ -138,8 +138,8 @@ module _ {profile : List ℤ} {rest : ℤ} (in-range : InRange profile rest) (ba
         in-tree = omega arith;
         from = omega arith;
         to = omega arith;
-        setpoints-within = within;
-        setpoints-below = below;
+        usable = within;
+        leaves-below = below;
         value-within = lifted-within rest (in-range .rest-within);
         value-is = refl;
       } in
@@ -148,20 +148,20 @@ module _ {profile : List ℤ} {rest : ℤ} (in-range : InRange profile rest) (ba
       rw (levels-gathered within below count (omega arith), level-gathered count reached (omega arith), first, gathered-append, whole)
 
   -- all levels are all that the walk leaves
-  pub upper-terms-walked : {setpoints : List ℤ} → Within setpoints → Below profile (height (length profile)) 1 setpoints
-      → upperTerms band (suc (height (length profile))) (height (length profile)) setpoints (lifted rest) ≡ walkedTerms in-range band
+  pub upper-terms-walked : {leaves : List Window} → Usable leaves → Below (accepts profile band) (height (length profile)) 1 leaves
+      → upperTerms (suc (height (length profile))) (height (length profile)) leaves (lifted rest) ≡ walkedTerms in-range band
   upper-terms-walked within below =
       levels-gathered within below (suc (height (length profile))) (omega arith)
       ∙ ap (λ (count : ℕ). gathered termAt 1 (count - 1)) (pow-succ' 2 (height (length profile)))
 
 -- fewer levels have no more terms
-module _ (band height : ℕ) (setpoints : List ℤ) (value : ℕ) where
-  further-levels : (count further : ℕ) → length (upperTerms band count height setpoints value) ≤ length (upperTerms band (count + further) height setpoints value)
+module _ (height : ℕ) (leaves : List Window) (value : ℕ) where
+  further-levels : (count further : ℕ) → length (upperTerms count height leaves value) ≤ length (upperTerms (count + further) height leaves value)
   unfolding upperTerms
   further-levels count zero = simp unary-clauses (omega arith)
   further-levels count (suc further) = let before = further-levels count further in simp (unary-clauses, length-append) (omega arith)
 
-  pub fewer-levels : (fewer all : ℕ) → fewer ≤ all → length (upperTerms band fewer height setpoints value) ≤ length (upperTerms band all height setpoints value)
+  pub fewer-levels : (fewer all : ℕ) → fewer ≤ all → length (upperTerms fewer height leaves value) ≤ length (upperTerms all height leaves value)
   fewer-levels fewer all fewer-or-as-many =
       let whole : fewer + (all - fewer) ≡ all = omega arith in
       rw whole at (further-levels fewer (all - fewer))

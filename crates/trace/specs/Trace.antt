@@ -16,7 +16,7 @@ use Rattle.claims.specs.Inner.{withTerm}
 use Rattle.windows.specs.Windows.{Window, covers, Sorted}
 use Rattle.windows.specs.Scratch.{at}
 use Rattle.subtree.specs.Answer.{combined, answer}
-use Rattle.subtree.specs.Stretch.{places, answerAt, Solved, Within}
+use Rattle.subtree.specs.Stretch.{places, answerAt, Solved, Usable}
 
 -- the lowest value of a set of sorted windows
 abbrev pub lowest : List Window → ℕ
@@ -36,17 +36,17 @@ abbrev pub change : (value next : ℕ) → Option ℕ
 change value next = cond (eqb next value) none (some next)
 
 -- the terms `depth` levels below a node, where a value comes in at the node
-unfoldable pub levelTerms : (band depth height : ℕ) → List ℤ → (node value : ℕ) → List Term
-levelTerms band zero height setpoints node value = withTerm node (choice (answer band height setpoints .windows) value) []
-levelTerms band (suc depth) zero setpoints node value = []
-levelTerms band (suc depth) (suc height) setpoints node value =
-    let next : ℕ = handedOn (answer band (suc height) setpoints .windows) value in
-    levelTerms band depth height (take (2 ^ height) setpoints) (2 * node) next ++ levelTerms band depth height (drop (2 ^ height) setpoints) (2 * node + 1) next
+unfoldable pub levelTerms : (depth height : ℕ) → List Window → (node value : ℕ) → List Term
+levelTerms zero height leaves node value = withTerm node (choice (answer height leaves .windows) value) []
+levelTerms (suc depth) zero leaves node value = []
+levelTerms (suc depth) (suc height) leaves node value =
+    let next : ℕ = handedOn (answer (suc height) leaves .windows) value in
+    levelTerms depth height (take (2 ^ height) leaves) (2 * node) next ++ levelTerms depth height (drop (2 ^ height) leaves) (2 * node + 1) next
 
 -- the terms of the first `count` levels from the root, where a value comes in at the root
-unfoldable pub upperTerms : (band count height : ℕ) → List ℤ → (value : ℕ) → List Term
-upperTerms band zero height setpoints value = []
-upperTerms band (suc count) height setpoints value = upperTerms band count height setpoints value ++ levelTerms band count height setpoints 1 value
+unfoldable pub upperTerms : (count height : ℕ) → List Window → (value : ℕ) → List Term
+upperTerms zero height leaves value = []
+upperTerms (suc count) height leaves value = upperTerms count height leaves value ++ levelTerms count height leaves 1 value
 
 -- the set of the answer at a place of scratch
 abbrev pub setAt : List ℤ → ℕ → List Window
@@ -70,12 +70,11 @@ pub record HandedDown (scratch : List ℤ) (left right value leftNext rightNext 
   pub left-is : leftNext ≡ handedOn (setAt scratch left) value
   pub right-is : rightNext ≡ handedOn (setAt scratch right) value
 
--- a stretch that holds every answer for some band and setpoints
+-- a stretch that holds every answer over some leaves
 pub record SolvedStretch (height : ℕ) (scratch : List ℤ) : Type 0 where
-  pub band : ℕ
-  pub setpoints : List ℤ
-  pub setpoints-within : Within setpoints
-  pub solved : Solved band height setpoints (at scratch)
+  pub leaves : List Window
+  pub usable : Usable leaves
+  pub solved : Solved height leaves (at scratch)
   pub in-tree : height ≤ 9
   pub long : places height ≤ length scratch
 
@@ -92,14 +91,14 @@ pub record LevelFits (scratch : List ℤ) (height depth node value : ℕ) (nodes
   pub in-subtree : depth ≤ height
   pub node-within : node < 2 ^ (10 - depth)
   pub in-set : covers (setAt scratch 0) value ≡ true
-  pub room : count + length (levelTerms (stretch .band) depth height (stretch .setpoints) node value) ≤ length nodes
+  pub room : count + length (levelTerms depth height (stretch .leaves) node value) ≤ length nodes
   pub same-room : length values ≡ length nodes
 
 -- the stretch of the whole tree, and room for its terms
 pub record LevelsFit (scratch : List ℤ) (height value : ℕ) (nodes : List ℕ) (values : List ℤ) : Type 0 where
   pub stretch : SolvedStretch height scratch
   pub value-within : value ≤ 40000
-  pub room : length (upperTerms (stretch .band) (suc height) height (stretch .setpoints) value) ≤ length nodes
+  pub room : length (upperTerms (suc height) height (stretch .leaves) value) ≤ length nodes
   pub same-room : length values ≡ length nodes
 
 -- what was written, over what follows the first `start` elements
@@ -120,12 +119,12 @@ pub record Traced (terms : List Term) (nodes nodes′ : List ℕ) (values values
 
 -- the terms `depth` levels below a node are written behind the first `start`
 pub record LevelTraced (scratch : List ℤ) (height depth node value : ℕ) (nodes nodes′ : List ℕ) (values values′ : List ℤ) (start count : ℕ) : Type 0 where
-  pub each : (band : ℕ) (setpoints : List ℤ) → Solved band height setpoints (at scratch) → Appended (levelTerms band depth height setpoints node value) nodes nodes′ values values′ start count
+  pub each : (leaves : List Window) → Solved height leaves (at scratch) → Appended (levelTerms depth height leaves node value) nodes nodes′ values values′ start count
 
 -- the terms of so many levels, or of all, are written
 pub record UpperTraced (levels : ℕ) (scratch : List ℤ) (height value : ℕ) (nodes nodes′ : List ℕ) (values values′ : List ℤ) (count : ℕ) : Type 0 where
-  pub each : (band : ℕ) (setpoints : List ℤ) → Solved band height setpoints (at scratch) → Traced (upperTerms band (min levels (suc height)) height setpoints value) nodes nodes′ values values′ count
+  pub each : (leaves : List Window) → Solved height leaves (at scratch) → Traced (upperTerms (min levels (suc height)) height leaves value) nodes nodes′ values values′ count
 
 -- the terms of all levels are written
 pub record LevelsTraced (scratch : List ℤ) (height value : ℕ) (nodes nodes′ : List ℕ) (values values′ : List ℤ) (count : ℕ) : Type 0 where
-  pub each : (band : ℕ) (setpoints : List ℤ) → Solved band height setpoints (at scratch) → Traced (upperTerms band (suc height) height setpoints value) nodes nodes′ values values′ count
+  pub each : (leaves : List Window) → Solved height leaves (at scratch) → Traced (upperTerms (suc height) height leaves value) nodes nodes′ values values′ count

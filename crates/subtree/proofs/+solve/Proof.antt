@@ -10,8 +10,11 @@ use borrow.Author.Needs.{needs}
 use lib.Pow.{pow-pos}
 use borrow.Rule.Slice.PartMut.{mid-len, same-len-mid}
 use Rattle.limits.proofs.Signed.{element}
+use Rattle.windows.specs.Scratch.{at}
+use Rattle.subtree.specs.Answer.{slotWindows}
 use Rattle.subtree.specs.Stretch.{Halves}
 use Rattle.subtree.proofs.Places.{own-first}
+use Rattle.subtree.proofs.Slots.{front-solved, back-solved}
 use Rattle.subtree.proofs.Solving.{left-solvable, right-solvable, halves, halves-combinable, whole-solved, both-length, leaf-whole}
 use Rattle.subtree.proofs.Pairs.{two-slots, pair-places, pair-whole, pairs-below}
 use borrow.Fn.Kinds.{In}
@@ -115,25 +118,27 @@ module _ (t : ℕ) where
   children-solved : (c : lts.Joined2 (calls t) (at-measure t) solve.Post)
       → let start = c .before .before .before in
       let parts = c .before .plan .result in
-      Halves (start .args .band) (start .args .height - 1) (parts .own) (parts .middle) (start .args .setpoints .now) (c .if2 .scratch) × (length (c .if2 .scratch) ≡ length (start .args .scratch .now))
+      Halves (start .args .height - 1) (parts .own) (parts .middle) (slotWindows (start .args .band) (start .args .setpoints .now)) (c .if2 .scratch) × (length (c .if2 .scratch) ≡ length (start .args .scratch .now))
   children-solved c =
       let start = c .before .before .before in
       let a = start .args in
       let parts = c .before .plan .result in
       let planned = c .before .plan .ensures in
+      let leaves = slotWindows (a .band) (a .setpoints .now) in
       ⊎-elim
       (λ w.
       let left = w .3 in
       let right = w .7 in
       rw (w .9) (
-        halves (a .band) (a .height) (parts .half) (parts .own) (parts .middle) (parts .end) (a .setpoints .now) (a .scratch .now) (left .last .1 .1 .0) (right .last .1 .1 .0) planned (omega arith)
-            (left .kept .1 .1 .0) (right .kept .1 .1 .0) (left .ensures) (right .ensures),
-        both-length (a .band) (a .height) (parts .half) (parts .own) (parts .middle) (parts .end) (a .setpoints .now) (a .scratch .now) (left .last .1 .1 .0) (right .last .1 .1 .0) planned (omega arith)
+        halves (a .height) (parts .half) (parts .own) (parts .middle) (parts .end) leaves (a .scratch .now) (left .last .1 .1 .0) (right .last .1 .1 .0) planned (omega arith)
+            (left .kept .1 .1 .0) (right .kept .1 .1 .0) (front-solved (a .band) (a .setpoints .now) (a .height - 1) (parts .half) (at (left .last .1 .1 .0)) (left .ensures))
+            (back-solved (a .band) (a .setpoints .now) (a .height - 1) (parts .half) (at (right .last .1 .1 .0)) (right .ensures)),
+        both-length (a .height) (parts .half) (parts .own) (parts .middle) (parts .end) leaves (a .scratch .now) (left .last .1 .1 .0) (right .last .1 .1 .0) planned (omega arith)
             (left .kept .1 .1 .0) (right .kept .1 .1 .0),
       ))
       (λ w.
       rw (w .4) (
-        pairs-below (a .band) (a .height) (parts .half) (parts .own) (parts .middle) (parts .end) (a .setpoints .now) (w .2 .last .1 .1 .0) (omega arith) (omega arith) planned (w .2 .ensures),
+        pairs-below (a .height) (parts .half) (parts .own) (parts .middle) (parts .end) leaves (w .2 .last .1 .1 .0) (omega arith) (omega arith) planned (w .2 .ensures),
         w .2 .kept .1 .1 .0,
       ))
       (c .if2 .came)
@@ -143,7 +148,7 @@ module _ (t : ℕ) where
       let start = c .before .before .before .before in
       let parts = c .before .before .plan .result in
       let solved = children-solved (c .before) in
-      halves-combinable (start .args .band) (start .args .height) (parts .half) (parts .own) (parts .middle) (parts .end) (start .args .setpoints .now) (c .before .if2 .scratch)
+      halves-combinable (start .args .height) (parts .half) (parts .own) (parts .middle) (parts .end) (slotWindows (start .args .band) (start .args .setpoints .now)) (c .before .if2 .scratch)
       (c .before .before .plan .ensures) (solved .0) (omega arith) (omega arith)
 
   shared-slice-copy-out-write-pair : lts.Need-shared-slice-copy-out-write-pair (calls t) (at-measure t) solve.Post
@@ -177,7 +182,7 @@ module _ (t : ℕ) where
   returns c =
       let start = c .before .before .before .before .before .before in
       let parts = c .before .before .before .before .plan .result in
-      whole-solved (start .args .band) (start .args .height) (parts .half) (parts .own) (parts .middle) (parts .end) (start .args .setpoints .now) (c .before .before .before .if2 .scratch)
+      whole-solved (start .args .height) (parts .half) (parts .own) (parts .middle) (parts .end) (slotWindows (start .args .band) (start .args .setpoints .now)) (c .before .before .before .if2 .scratch)
       (c .before .before .before .before .plan .ensures) (children-solved (c .before .before .before) .0) (c .before .combine .last .0) (c .before .combine .ensures)
 
   same-length-2 : lts.Need-same-length-2 (calls t) (at-measure t) solve.Post
@@ -200,7 +205,7 @@ module _ (t : ℕ) where
   returns-3 c =
       let start = c .before .before .before .before .before .before in
       let leaf = rw (element (getD (start .args .setpoints .now) 0 (pos 0)) (c .before .before .before .write-leaf-arg .given)) at (c .before .write-leaf .ensures) in
-      leaf-whole (start .args .band) (start .args .height) (start .args .setpoints .now) (c .before .write-leaf .last .1 .1 .0) (omega arith) leaf
+      leaf-whole (start .args .band) (start .args .height) (start .args .setpoints .now) (c .before .write-leaf .last .1 .1 .0) (omega arith) (omega (arith, pow-pos (start .args .height))) leaf
 
 pub +solve-spec : {M : Type 1} → statement M
 +solve-spec = close μ-solve λ t. lts.spec (calls t)

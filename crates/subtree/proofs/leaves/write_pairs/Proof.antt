@@ -4,6 +4,7 @@ use lib.IntN.{pos}
 use lib.ListN.{getD}
 use borrow.Rule.Slice.PartMut.{putMid, mid-len, same-len-mid}
 use Rattle.limits.proofs.Signed.{element}
+use Rattle.subtree.specs.Answer.{slotWindows}
 use Rattle.subtree.proofs.Solving.{halves}
 use Rattle.subtree.proofs.Pairs.{four-places, four-planned, pairs-solved}
 use borrow.Author.Needs.{needs}
@@ -81,7 +82,7 @@ returns c =
       element (getD (a .setpoints .now) 3 (pos 0)) (c .before .before .before .write-pair-arg5 .given),
     ) at (right .ensures) in
     let pairs = pairs-solved (a .band) (a .setpoints .now) (left .last .1 .1 .1 .0) (right .last .1 .1 .1 .0) (start .pre .slots) of-left of-right in
-    halves (a .band) 2 2 10 24 38 (a .setpoints .now) (a .scratch .now) (left .last .1 .1 .1 .0) (right .last .1 .1 .1 .0) four-planned (omega (arith, four-places))
+    halves 2 2 10 24 38 (slotWindows (a .band) (a .setpoints .now)) (a .scratch .now) (left .last .1 .1 .1 .0) (right .last .1 .1 .1 .0) four-planned (omega (arith, four-places))
     (left .kept .1 .1 .1 .0) (right .kept .1 .1 .1 .0) (pairs .0) (pairs .1)
 
 pub write-pairs-spec : {M : Type 1} → statement M
