@@ -36,8 +36,11 @@ extern "C" {
 #define PANEL_MOST_SLOTS 512
 #define PANEL_MOST_BUDGET 1023
 
-/* A longer text is refused: 514 lines of at most seven characters and their line end. */
-#define PANEL_MOST_TEXT_BYTES 4112
+/* The bytes of the longest line: seven characters, as -200,00, and the line end. */
+#define PANEL_LONGEST_LINE 8
+
+/* A longer text is refused: a line for the rest value, one for the band, and one a setpoint. */
+#define PANEL_MOST_TEXT_BYTES (PANEL_LONGEST_LINE * (2 + PANEL_MOST_SLOTS))
 
 /* The bytes of a record of that many terms. */
 #define PANEL_RECORD_BYTES(terms) ((55u + 26u * (size_t)(terms) + 7u) / 8u)

@@ -1,13 +1,13 @@
--- A number has at most 7 bytes, as `-200,00`: a minus, three digits, a mark and two digits. A longer field is none.
+-- No number is longer than the longest: a minus, three digits, a mark and two digits.
 use mathlib.Core.Path.{_≡_, refl}
 use mathlib.Core.Bool.{Bool, true, false, cond}
 use mathlib.Core.List.{List, [], _∷_}
 use mathlib.Core.Option.{Option, none}
-use Prim.Native.Nat.{ℕ, zero, suc, _≤_}
+use Prim.Native.Nat.{ℕ, zero, suc, _≤_, _<_}
 use native.Mathlib.Omega.{arith}
 use lib.Dec.{eqb}
 use lib.ListN.{length, drop, length-drop}
-use Rattle.decimal.specs.Number.{isDigit, isMark, leadingDigits, hundredths, fraction, unsigned, readsAs}
+use Rattle.decimal.specs.Number.{longestNumber, isDigit, isMark, leadingDigits, hundredths, fraction, unsigned, readsAs}
 
 -- none in either case of a test
 pub either-none : {A : Type 0} (test : Bool) (x y : Option A) → x ≡ none → y ≡ none → cond test x y ≡ none
@@ -38,7 +38,7 @@ few-leading (suc most) (byte ∷ field) = by-first (isDigit byte) (few-leading m
     by-first false shorter = omega arith
 
 -- seven bytes without a sign
-too-long-unsigned : (field : List ℕ) → 7 ≤ length field → unsigned field ≡ none
+too-long-unsigned : (field : List ℕ) → longestNumber ≤ length field → unsigned field ≡ none
 too-long-unsigned field long =
     let units : List ℕ = leadingDigits 3 field in
     let no-fraction : fraction (drop (length units) field) ≡ none =
@@ -46,7 +46,7 @@ too-long-unsigned field long =
     either-none (eqb (length units) 0) none _ refl (rw no-fraction refl)
 
 -- eight bytes
-pub too-long-number : (field : List ℕ) → 8 ≤ length field → readsAs field ≡ none
+pub too-long-number : (field : List ℕ) → longestNumber < length field → readsAs field ≡ none
 too-long-number [] long = absurd (omega arith)
 too-long-number (byte ∷ field) long =
     either-none (eqb byte 45) _ _ (rw (too-long-unsigned field (omega arith)) refl) (rw (too-long-unsigned (byte ∷ field) (omega arith)) refl)

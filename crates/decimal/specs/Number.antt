@@ -19,6 +19,10 @@ digit byte = byte - 48
 abbrev pub isMark : ℕ → Bool
 isMark byte = eqb byte 44 || eqb byte 46
 
+-- the bytes of the longest number: a minus, three digits, a mark and two digits
+abbrev pub longestNumber : ℕ
+longestNumber = 1 + 3 + 1 + 2
+
 -- the digits that a field begins with, `most` of them at the most
 unfoldable pub leadingDigits : ℕ → List ℕ → List ℕ
 leadingDigits zero field = []

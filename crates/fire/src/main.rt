@@ -12,10 +12,9 @@ ghost use lib.ListN.{length};
 ghost use Rattle.panel.specs.Inner.{RightProfile};
 
 fn main() {
-    // The first 4,113 bytes decide (`first-bytes-read` in profile/proofs/Decided.antt).
-    // An accepted text has at most 514 lines of 8 bytes, as `-200,00` and the byte 10. Of a longer text they hold a line
-    // that is refused, since more than 7 bytes stand before its end, or 514 lines and a byte more.
-    let mut text = [0u8; 4113];
+    // One byte more than the longest text has decides for a text of any length (`first-bytes-read` in profile/proofs/Decided.antt):
+    // of a longer text so many bytes hold a line that is too long for a number, or all the lines that a text may have and a byte more.
+    let mut text = [0u8; profile::LONGEST_TEXT + 1];
     let count = io::read_full(STDIN_FILENO, &mut text);
     fire(&text[..count]);
 }

@@ -2,14 +2,22 @@
 use mathlib.Core.Bool.{Bool, true, false, not, cond}
 use mathlib.Core.List.{List, [], _∷_}
 use mathlib.Core.Option.{Option, none, some}
-use Prim.Native.Nat.{ℕ, zero, suc}
+use Prim.Native.Nat.{ℕ, zero, suc, _+_, _*_}
 use lib.Dec.{ltb, eqb}
 use lib.IntN.{ℤ, pos}
 use lib.ListN.{length, drop}
 use Rattle.limits.specs.Answers.{_when_, _then_, granted}
 use Rattle.limits.specs.Limits.{beyond, outsideBand}
-use Rattle.decimal.specs.Number.{readsAs}
+use Rattle.decimal.specs.Number.{longestNumber, readsAs}
 use Rattle.decimal.specs.Answers.{numberOr}
+
+-- the bytes of the longest line that is accepted, its byte 10 among them
+abbrev pub longestLine : ℕ
+longestLine = longestNumber + 1
+
+-- the bytes of the longest text that is accepted: the rest value, the band and 512 setpoints, each in the longest line
+abbrev pub longestText : ℕ
+longestText = longestLine * (1 + 1 + 512)
 
 -- the first line of a text: the bytes before the first byte 10, and all of them where there is none
 unfoldable pub line : List ℕ → List ℕ

@@ -11,7 +11,7 @@ use crate::inputs::typed::{NO_NUMBERS, OUT_OF_RANGE, lines, text};
 const FIRING: &[u8] = b"14,00\n0,25\n14,10\n13,90\n20,00\n19,50\n";
 const FIRING_PRINTED: &str = "4 1 0,25 0,25\nterm 3 19,75\nslot 0 14,00\nslot 1 14,00\nslot 2 19,75\nslot 3 19,75\n";
 
-/// The longest text that is accepted: 514 lines of seven characters and the byte 10, 4,112 bytes.
+/// The longest text that is accepted: 514 lines of seven characters and the byte 10.
 fn longest() -> Vec<u8> {
     [b"-200,00\n-000,00\n".as_slice(), &b"-200,00\n".repeat(SLOT_LIMIT)].concat()
 }
@@ -71,7 +71,7 @@ fn faults(comparison: &mut Comparison, random: &mut Random) {
 /// 514 lines, and bytes after them: one, a line, and so many that the program does not read them all.
 fn long_texts(comparison: &mut Comparison) {
     let longest = longest();
-    comparison.same("the bytes of the longest text", &"514 lines", 4_112, longest.len());
+    comparison.same("the bytes of the longest text", &"514 lines", 8 * (2 + SLOT_LIMIT), longest.len());
     comparison.fire(&longest);
     comparison.fire(&longest[..longest.len() - 1]);
     for byte in 0..=255 {
