@@ -8,12 +8,14 @@ use lib.ListN.{length}
 use Rattle.limits.proofs.Refusals.{granted-nothing}
 use Rattle.histogram.specs.Terms.{paired}
 use Rattle.histogram.specs.Errors.{greatestError}
+use Rattle.build.specs.declared.BuildAnswer.{BuildAnswer}
 use Rattle.build.specs.Building.{buildRefusal, Built, handedOver, MemoryLeft}
 use Rattle.build.specs.Inner.{BestBuilt}
 
 module _ (profile : List ℤ) (rest band : ℤ) (nodes : List ℕ) (values scratch : List ℤ) where
   pub refused : (refusal : ℕ) → refusal ≡ buildRefusal profile rest band (length nodes) (length scratch) → 0 < refusal
-      → Built profile rest band (length nodes) (length scratch) refusal 0 0 (handedOver 0 nodes values) × MemoryLeft refusal 0 nodes nodes values values scratch scratch
+      → let answer : BuildAnswer = record { refusal = refusal; count = 0; error = 0 } in
+      Built profile rest band (length nodes) (length scratch) answer (handedOver 0 nodes values) × MemoryLeft answer nodes nodes values values scratch scratch
   unfolding paired
   refused refusal is wrong = (
     record {
@@ -26,11 +28,11 @@ module _ (profile : List ℤ) (rest band : ℤ) (nodes : List ℕ) (values scrat
     record { nodes-past = refl; values-past = refl; scratch-refused = λ some. refl },
   )
 
-  pub handed : buildRefusal profile rest band (length nodes) (length scratch) ≡ 0 → (refusal count error : ℕ) (nodes′ : List ℕ) (values′ scratch′ : List ℤ)
-      → BestBuilt profile rest (natAbs band) refusal count error nodes nodes′ values values′
-      → Built profile rest band (length nodes) (length scratch) refusal count error (handedOver count nodes′ values′)
-      × MemoryLeft refusal count nodes nodes′ values values′ scratch scratch′
-  handed right refusal count error nodes′ values′ scratch′ built = (
+  pub handed : buildRefusal profile rest band (length nodes) (length scratch) ≡ 0 → (answer : BuildAnswer) (nodes′ : List ℕ) (values′ scratch′ : List ℤ)
+      → BestBuilt profile rest (natAbs band) answer nodes nodes′ values values′
+      → Built profile rest band (length nodes) (length scratch) answer (handedOver (answer .count) nodes′ values′)
+      × MemoryLeft answer nodes nodes′ values values′ scratch scratch′
+  handed right answer nodes′ values′ scratch′ built = (
     record {
       refusal-is = built .refusal-is ∙ sym right;
       best = λ none. built .best;

@@ -91,7 +91,7 @@ module _ (profile : List ℤ) (rest : ℤ) (band : ℕ) (nodes : List ℕ) (valu
           needed-at in-range few room long filled band,
         )
 
-    pub best-built : BestBuilt profile rest band 0 count error nodes nodes′ values values′
+    pub best-built : BestBuilt profile rest band (record { refusal = 0; count = count; error = error }) nodes nodes′ values values′
     best-built = record {
       refusal-is = refl;
       best = subst (Best profile rest band) (sym terms-are)

@@ -14,6 +14,7 @@ use Rattle.histogram.specs.Tree.{padded}
 use Rattle.histogram.specs.Terms.{paired}
 use Rattle.histogram.specs.Errors.{greatestError}
 use Rattle.claims.specs.Best.{Best}
+use Rattle.build.specs.declared.BuildAnswer.{BuildAnswer}
 
 -- what is wrong with setpoints and their rest value: 4, then "2 (rest first)"
 abbrev pub valuesRefusal : List ℤ → ℤ → ℕ
@@ -32,19 +33,19 @@ buildRefusal profile rest band places numbers =
     valuesRefusal profile rest then 3 when outsideBand band then 6 when (destinationShort profile places || scratchShort numbers)
 
 -- "the terms, their count and the greatest error": of the terms handed over, which are none on a refusal
-pub record Built (profile : List ℤ) (rest band : ℤ) (places numbers refusal count error : ℕ) (terms : List Term) : Type 0 where
-  pub refusal-is : refusal ≡ buildRefusal profile rest band places numbers
-  pub best : refusal ≡ 0 → Best profile rest (natAbs band) terms
-  pub none-refused : 0 < refusal → terms ≡ []
-  pub count-is : count ≡ length terms
-  pub error-is : error ≡ granted refusal (greatestError profile rest terms) 0
+pub record Built (profile : List ℤ) (rest band : ℤ) (places numbers : ℕ) (answer : BuildAnswer) (terms : List Term) : Type 0 where
+  pub refusal-is : answer .refusal ≡ buildRefusal profile rest band places numbers
+  pub best : answer .refusal ≡ 0 → Best profile rest (natAbs band) terms
+  pub none-refused : 0 < answer .refusal → terms ≡ []
+  pub count-is : answer .count ≡ length terms
+  pub error-is : answer .error ≡ granted (answer .refusal) (greatestError profile rest terms) 0
 
 -- the terms handed over: the first `count` that two destinations hold, of nodes and of values
 abbrev pub handedOver : ℕ → List ℕ → List ℤ → List Term
 handedOver count nodes values = paired (take count nodes) (take count values)
 
 -- lent memory: "places of an output past what is written hold what they held", and a refusal leaves scratch as it was
-pub record MemoryLeft (refusal count : ℕ) (nodes nodes′ : List ℕ) (values values′ scratch scratch′ : List ℤ) : Type 0 where
-  pub nodes-past : drop count nodes′ ≡ drop count nodes
-  pub values-past : drop count values′ ≡ drop count values
-  pub scratch-refused : 0 < refusal → scratch′ ≡ scratch
+pub record MemoryLeft (answer : BuildAnswer) (nodes nodes′ : List ℕ) (values values′ scratch scratch′ : List ℤ) : Type 0 where
+  pub nodes-past : drop (answer .count) nodes′ ≡ drop (answer .count) nodes
+  pub values-past : drop (answer .count) values′ ≡ drop (answer .count) values
+  pub scratch-refused : 0 < answer .refusal → scratch′ ≡ scratch

@@ -12,6 +12,7 @@ use Rattle.histogram.specs.declared.Term.{Term}
 use Rattle.subtree.specs.Answer.{slotWindows, termsFor}
 use Rattle.subtree.specs.Stretch.{Solvable}
 use Rattle.trace.specs.Trace.{upperTerms, Traced}
+use Rattle.build.specs.declared.BuildAnswer.{BuildAnswer}
 use Rattle.build.specs.Building.{handedOver}
 
 -- a setpoint for each slot of the tree, filler slots too
@@ -60,10 +61,10 @@ pub record Buildable (profile : List ℤ) (rest : ℤ) (band : ℕ) (nodes : Lis
   pub destination-long : padded (length profile) ≤ length nodes
 
 -- a best synopsis is handed over
-pub record BestBuilt (profile : List ℤ) (rest : ℤ) (band refusal count error : ℕ) (nodes nodes′ : List ℕ) (values values′ : List ℤ) : Type 0 where
-  pub refusal-is : refusal ≡ 0
-  pub best : Best profile rest band (handedOver count nodes′ values′)
-  pub count-is : count ≡ length (handedOver count nodes′ values′)
-  pub error-is : error ≡ greatestError profile rest (handedOver count nodes′ values′)
-  pub nodes-past : drop count nodes′ ≡ drop count nodes
-  pub values-past : drop count values′ ≡ drop count values
+pub record BestBuilt (profile : List ℤ) (rest : ℤ) (band : ℕ) (answer : BuildAnswer) (nodes nodes′ : List ℕ) (values values′ : List ℤ) : Type 0 where
+  pub refusal-is : answer .refusal ≡ 0
+  pub best : Best profile rest band (handedOver (answer .count) nodes′ values′)
+  pub count-is : answer .count ≡ length (handedOver (answer .count) nodes′ values′)
+  pub error-is : answer .error ≡ greatestError profile rest (handedOver (answer .count) nodes′ values′)
+  pub nodes-past : drop (answer .count) nodes′ ≡ drop (answer .count) nodes
+  pub values-past : drop (answer .count) values′ ≡ drop (answer .count) values

@@ -33,8 +33,8 @@ pub fn build_synopsis(
     scratch: &mut [i16],
 ) -> BuildAnswer
     requires { ⌜ length (now nodes) ≡ length (now values) ⌝ }
-    ensures { λ r. ⌜ Built (now (setpoints .entry)) rest band (length (now (nodes .entry))) (length (now (scratch .entry))) (r .refusal) (r .count) (r .error) (handedOver (r .count) (now (nodes .exit)) (now (values .exit)))
-        × MemoryLeft (r .refusal) (r .count) (now (nodes .entry)) (now (nodes .exit)) (now (values .entry)) (now (values .exit)) (now (scratch .entry)) (now (scratch .exit)) ⌝ }
+    ensures { λ r. ⌜ Built (now (setpoints .entry)) rest band (length (now (nodes .entry))) (length (now (scratch .entry))) r (handedOver (r .count) (now (nodes .exit)) (now (values .exit)))
+        × MemoryLeft r (now (nodes .entry)) (now (nodes .exit)) (now (values .entry)) (now (values .exit)) (now (scratch .entry)) (now (scratch .exit)) ⌝ }
 {
     let refusal = refuse_build(setpoints, rest, band, nodes.len(), scratch.len());
     if 0 < refusal {
@@ -100,7 +100,7 @@ fn build_best(
     scratch: &mut [i16],
 ) -> BuildAnswer
     requires { ⌜ Buildable (now setpoints) rest band (now nodes) (now values) (now scratch) ⌝ }
-    ensures { λ r. ⌜ BestBuilt (now (setpoints .entry)) rest band (r .refusal) (r .count) (r .error) (now (nodes .entry)) (now (nodes .exit)) (now (values .entry)) (now (values .exit)) ⌝ }
+    ensures { λ r. ⌜ BestBuilt (now (setpoints .entry)) rest band r (now (nodes .entry)) (now (nodes .exit)) (now (values .entry)) (now (values .exit)) ⌝ }
 {
     let mut room = [0i16; 512];
     fill(setpoints, &mut room);
@@ -124,7 +124,7 @@ pub struct LeastBandAnswer {
 
 // Finds the least band that some synopsis of at most `budget` terms keeps.
 pub fn least_band(setpoints: &[i16], rest: i32, budget: u32, scratch: &mut [i16]) -> LeastBandAnswer
-    ensures { λ r. ⌜ LeastBandFound (now (setpoints .entry)) rest budget (r .refusal) (r .band) (now (scratch .entry)) (now (scratch .exit)) ⌝ }
+    ensures { λ r. ⌜ LeastBandFound (now (setpoints .entry)) rest budget r (now (scratch .entry)) (now (scratch .exit)) ⌝ }
 {
     let refused = refuse_least_band(setpoints, rest, budget, scratch.len());
     if 0 < refused {

@@ -16,6 +16,7 @@ use Rattle.histogram.specs.Restored.{restoredSlot}
 use Rattle.histogram.specs.Errors.{greatestError}
 use Rattle.record.specs.Record.{slotsIn, bandIn, restIn, termsIn}
 use Rattle.record_check.specs.Checking.{checkRefusal, kept, lowestBeyond, SlotRead, Checked}
+use Rattle.build.specs.declared.LeastBandAnswer.{LeastBandAnswer}
 use Rattle.build.specs.LeastBand.{LeastBandFound}
 use Rattle.panel.specs.Results.{packed, result, slotResult, againstTextResult, leastBandOfTextRefusal, LeastBandOfText}
 use Rattle.panel.proofs.Texts.{Held, right-profile}
@@ -78,17 +79,17 @@ budget-refused text budget number right large number-is =
     let five : leastBandOfTextRefusal text budget ≡ 5 = rw (right, lt-ltb 1023 budget large) in
     record { band = 0; least = λ none. absurd (omega (arith, five)); result-is = rw five number-is }
 
-pub least-packed : (text : List ℕ) (rest band : ℤ) (slots : ℕ) (room : List ℤ) (budget refusal least number : ℕ) (profile scratch scratch′ : List ℤ) → Held text rest band slots room
-    → budget ≤ 1023 → profile ≡ setpointsOf text → 12288 ≤ length scratch → LeastBandFound profile rest budget refusal least scratch scratch′
-    → number ≡ packed 0 least 0 0 → LeastBandOfText text budget number
-least-packed text rest band slots room budget refusal least number profile scratch scratch′ held few profile-is long found number-is =
+pub least-packed : (text : List ℕ) (rest band : ℤ) (slots : ℕ) (room : List ℤ) (budget : ℕ) (answer : LeastBandAnswer) (number : ℕ) (profile scratch scratch′ : List ℤ) → Held text rest band slots room
+    → budget ≤ 1023 → profile ≡ setpointsOf text → 12288 ≤ length scratch → LeastBandFound profile rest budget answer scratch scratch′
+    → number ≡ packed 0 (answer .band) 0 0 → LeastBandOfText text budget number
+least-packed text rest band slots room budget answer number profile scratch scratch′ held few profile-is long found number-is =
     let right = right-profile text (held .not-refused) in
     let few-enough : ltb 1023 budget ≡ false = le-ltb 1023 budget few in
     let enough : ltb (length scratch) 12288 ≡ false = le-ltb (length scratch) 12288 long in
-    let none : refusal ≡ 0 = found .refusal-is ∙ rw (profile-is, held .rest-is, right .setpoints-right, few-enough, enough) in
+    let none : answer .refusal ≡ 0 = found .refusal-is ∙ rw (profile-is, held .rest-is, right .setpoints-right, few-enough, enough) in
     let not-refused : leastBandOfTextRefusal text budget ≡ 0 = rw (held .not-refused, few-enough) in
     record {
-      band = least;
+      band = answer .band;
       least = λ right′. rw (profile-is, held .rest-is) at (found .least none);
       result-is = rw not-refused number-is;
     }

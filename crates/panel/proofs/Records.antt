@@ -20,6 +20,7 @@ use Rattle.histogram.proofs.Powers.{padded-bound}
 use Rattle.record.specs.Record.{recordLength, recordBytes}
 use Rattle.record.specs.Answers.{writingRefusal, RecordWritten}
 use Rattle.claims.specs.Best.{Best}
+use Rattle.build.specs.declared.BuildAnswer.{BuildAnswer}
 use Rattle.build.specs.Building.{buildRefusal, Built, handedOver}
 use Rattle.panel.specs.Results.{packed, textToRecordRefusal, TextToRecord}
 use Rattle.panel.specs.Inner.{RightProfile, RecordBuilt}
@@ -75,14 +76,14 @@ module _ {profile : List ℤ} {rest band : ℤ} (right : RightProfile profile re
       is-valid : (test : Bool) → T test → not test ≡ false
       is-valid true passes = refl
 
-  module _ {places numbers refusal count error : ℕ} {terms : List Term} (built : Built profile rest band places numbers refusal count error terms) (room : 512 ≤ places) (scratch : 12288 ≤ numbers) where
-    none-refused : refusal ≡ 0
+  module _ {places numbers : ℕ} {answer : BuildAnswer} {terms : List Term} (built : Built profile rest band places numbers answer terms) (room : 512 ≤ places) (scratch : 12288 ≤ numbers) where
+    none-refused : answer .refusal ≡ 0
     none-refused = built .refusal-is ∙ building-right places numbers room scratch
 
     pub is-best : Best profile rest (natAbs band) terms
     is-best = built .best none-refused
 
-    error-is : error ≡ greatestError profile rest terms
+    error-is : answer .error ≡ greatestError profile rest terms
     error-is = rw none-refused at (built .error-is)
 
     module _ {written bytes : ℕ} {before after : List ℕ} (record-written : RecordWritten (length profile) band rest terms written bytes before after) (number : ℕ) where
@@ -100,7 +101,7 @@ module _ {profile : List ℤ} {rest band : ℤ} (right : RightProfile profile re
         destination-is = destination;
       }
 
-      pub record-built : written ≤ 0 → number ≡ packed 0 bytes count error → RecordBuilt profile rest band before after number
+      pub record-built : written ≤ 0 → number ≡ packed 0 bytes (answer .count) (answer .error) → RecordBuilt profile rest band before after number
       record-built right′ number-is =
           let none : written ≡ 0 = omega arith in
           let bytes-are : bytes ≡ recordLength (length terms) = rw none at (record-written .count-is) in
@@ -112,7 +113,7 @@ module _ {profile : List ℤ} {rest band : ℤ} (right : RightProfile profile re
           }
 
       -- the record is no longer than that of 512 terms
-      pub bytes-few : count ≤ 512 → written ≤ 0 → bytes ≤ 3332
+      pub bytes-few : answer .count ≤ 512 → written ≤ 0 → bytes ≤ 3332
       bytes-few few right′ =
           let none : written ≡ 0 = omega arith in
           let bytes-are : bytes ≡ recordLength (length terms) = rw none at (record-written .count-is) in

@@ -23,10 +23,10 @@ module _ (profile : List ℤ) (rest band : ℤ) (answer : BuildAnswer) (parts : 
   in-front : take (answer .count) terms′ ≡ termsOf parts
   in-front = ap (take (answer .count)) laid-is ∙ front-of (termsOf parts) terms (answer .count) counted
 
-  pub handed-over : Built profile rest band (length terms) (length scratch) (answer .refusal) (answer .count) (answer .error) (take (answer .count) terms′)
-      × TermsHanded (answer .refusal) (answer .count) terms terms′ scratch scratch′
+  pub handed-over : Built profile rest band (length terms) (length scratch) answer (take (answer .count) terms′)
+      × TermsHanded answer terms terms′ scratch scratch′
   handed-over = (
-    subst (Built profile rest band (length terms) (length scratch) (answer .refusal) (answer .count) (answer .error)) (sym in-front) (made .built),
+    subst (Built profile rest band (length terms) (length scratch) answer) (sym in-front) (made .built),
     record {
       past = ap (drop (answer .count)) laid-is ∙ past-front (termsOf parts) terms (answer .count) counted;
       scratch-refused = made .scratch-refused;

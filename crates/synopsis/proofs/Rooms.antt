@@ -76,7 +76,7 @@ room-part limit places room limit-is long = length-take-le limit room (omega ari
 
 -- terms that were built into the front of the room
 module _ (profile : List ℤ) (rest band : ℤ) (places limit : ℕ) (limit-is : limit ≡ min places 1024) (answer : BuildAnswer) (front nodes : List ℕ) (front-values values scratch scratch′ : List ℤ)
-    (built : Built profile rest band limit (length scratch) (answer .refusal) (answer .count) (answer .error) (handedOver (answer .count) front front-values))
+    (built : Built profile rest band limit (length scratch) answer (handedOver (answer .count) front front-values))
     (front-long : length front ≡ limit) (front-values-long : length front-values ≡ limit) (left : 0 < answer .refusal → scratch′ ≡ scratch) where
   few-nodes : answer .count ≤ length front
   few-nodes = omega (arith, counted-nodes (answer .count) front front-values, built .count-is)

@@ -9,6 +9,7 @@ use Rattle.limits.specs.Answers.{granted, laid}
 use Rattle.histogram.specs.declared.Term.{Term}
 use Rattle.record.specs.Record.{termsIn}
 use Rattle.record.specs.Answers.{readingRefusal, HeaderOf}
+use Rattle.build.specs.declared.BuildAnswer.{BuildAnswer}
 
 -- a record read into a destination for its terms
 pub record TermsRead (bytes : List ℕ) (refusal slots : ℕ) (band rest : ℤ) (count : ℕ) (terms terms′ : List Term) : Type 0 where
@@ -17,6 +18,6 @@ pub record TermsRead (bytes : List ℕ) (refusal slots : ℕ) (band rest : ℤ) 
   pub terms-are : terms′ ≡ laid (granted refusal (termsIn bytes) []) terms
 
 -- lent memory after building: "places of an output past what is written hold what they held", and a refusal leaves scratch as it was
-pub record TermsHanded (refusal count : ℕ) (terms terms′ : List Term) (scratch scratch′ : List ℤ) : Type 0 where
-  pub past : drop count terms′ ≡ drop count terms
-  pub scratch-refused : 0 < refusal → scratch′ ≡ scratch
+pub record TermsHanded (answer : BuildAnswer) (terms terms′ : List Term) (scratch scratch′ : List ℤ) : Type 0 where
+  pub past : drop (answer .count) terms′ ≡ drop (answer .count) terms
+  pub scratch-refused : 0 < answer .refusal → scratch′ ≡ scratch

@@ -55,6 +55,6 @@ pub record ReadInRoom (bytes : List ℕ) (places : ℕ) (answer : HeaderAnswer) 
 
 -- a synopsis built for a destination of that many places
 pub record BuiltInRoom (profile : List ℤ) (rest band : ℤ) (places : ℕ) (answer : BuildAnswer) (parts : Parts) (scratch scratch′ : List ℤ) : Type 0 where
-  pub built : Built profile rest band places (length scratch) (answer .refusal) (answer .count) (answer .error) (termsOf parts)
+  pub built : Built profile rest band places (length scratch) answer (termsOf parts)
   pub fit : FitTogether parts places
   pub scratch-refused : 0 < answer .refusal → scratch′ ≡ scratch

@@ -227,8 +227,8 @@ pub fn build(
     terms: &mut [Term],
     scratch: &mut [i16],
 ) -> BuildAnswer
-    ensures { λ r. ⌜ Built (now (setpoints .entry)) rest band (length (now (terms .entry))) (length (now (scratch .entry))) (r .refusal) (r .count) (r .error) (take (r .count) (now (terms .exit)))
-        × TermsHanded (r .refusal) (r .count) (now (terms .entry)) (now (terms .exit)) (now (scratch .entry)) (now (scratch .exit)) ⌝ }
+    ensures { λ r. ⌜ Built (now (setpoints .entry)) rest band (length (now (terms .entry))) (length (now (scratch .entry))) r (take (r .count) (now (terms .exit)))
+        × TermsHanded r (now (terms .entry)) (now (terms .exit)) (now (scratch .entry)) (now (scratch .exit)) ⌝ }
 {
     let built = build_in_room(setpoints, rest, band, terms.len(), scratch);
     put_together(built.parts, terms);

@@ -60,7 +60,7 @@ returns-2 c =
     let start = c .before .before .before .before .before .before .before .before .before .before .before in
     let args = start .args in
     let built = c .before .before .before .before .build-best in
-    handed (args .setpoints .now) (args .rest) (args .band) (args .nodes .now) (args .values .now) (args .scratch .now) (not-refused (c .before .before .before .before .before .before .before .before)) (built .result .refusal) (built .result .count) (built .result .error)
+    handed (args .setpoints .now) (args .rest) (args .band) (args .nodes .now) (args .values .now) (args .scratch .now) (not-refused (c .before .before .before .before .before .before .before .before)) (built .result)
     (built .last .1 .1 .1 .0) (built .last .1 .1 .1 .1 .0) (built .last .1 .1 .1 .1 .1 .0) (rw (toZ-ofZ (start .fits .rest), toZ-ofZ (start .fits .band)) at (built .ensures))
 
 pub build-synopsis-spec : {M : Type 1} → statement M

@@ -64,7 +64,7 @@ returns-3 c =
     let read = c .before .before .before .before .before .before .before .before .before .before .before .read-text in
     let found = c .before .before .before .least-band in
     let of-text = held (read .ensures) (omega arith) in
-    least-packed (args .text .now) (read .result .rest) (read .result .band) (read .result .slots) (read .last .1 .0) (args .budget) (found .result .refusal) (found .result .band) (c .pack3 .result) _ _ _
+    least-packed (args .text .now) (read .result .rest) (read .result .band) (read .result .slots) (read .last .1 .0) (args .budget) (found .result) (c .pack3 .result) _ _ _
     of-text (omega arith) (of-text .setpoints-are) (omega arith) (rw (toZ-ofZ (rest-fits of-text)) at (found .ensures)) (c .pack3 .ensures)
 
 pub panel-least-band-of-text-spec : {M : Type 1} → statement M

@@ -127,7 +127,7 @@ module _ {M : Type 1} (𝓤 : URA M) (H : Heap 𝓤) (A : Atoms 𝓤) (W : Given
   to-work α l δ = (((κ, (α ∷ [], (κ₁, tt))), (q, (fullShare, (q₁, tt))), tt, given-work l δ, (vI ∷ [], (vRest ∷ [], (vBand ∷ [], (sliceVal (l, 0) (length front) ∷ [], (vS ∷ [], tt)))))), tt)
 
   abbrev Said : BuildAnswer → List Term → List ℤ → Type 0
-  Said a terms after = Builds.Built setpoints rest band (length front) (length scratch) (a .refusal) (a .count) (a .error) (take (a .count) terms) × TermsHanded (a .refusal) (a .count) front terms scratch after
+  Said a terms after = Builds.Built setpoints rest band (length front) (length scratch) a (take (a .count) terms) × TermsHanded a front terms scratch after
 
   goes-work : (α l : ℕ) (δ : GName) → Right → ent 𝓤 (sep 𝓤 (sep 𝓤 (sep 𝓤 (A .lft κ q) (A .lft (α ∷ []) fullShare)) (A .lft κ₁ q₁)) (sep 𝓤 (sep 𝓤 (sem 𝓤 H A OwnI) (sem 𝓤 H A (OwnT α l δ))) (sem 𝓤 H A OwnS))) (Work 𝓤 H A mem run .pre (to-work α l δ))
   goes-work α l δ right =
