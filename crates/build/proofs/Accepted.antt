@@ -1,16 +1,17 @@
 -- What follows where building or the least band is not refused.
-use mathlib.Core.Path.{_≡_, refl, sym, subst}
-use mathlib.Core.Bool.{Bool, true, false, not, _||_}
+use mathlib.Core.Path.{_≡_, sym, subst}
+use mathlib.Core.Bool.{Bool, false, not}
 use mathlib.Core.List.{List}
 use Prim.Native.Nat.{ℕ, _-_, _≤_, min}
 use lib.Dec.{T, ltb}
-use lib.IntN.{ℤ, pos, negsuc, natAbs}
+use lib.IntN.{ℤ, natAbs}
 use lib.ListN.{length}
 use lib.Signed.{nonNeg}
 use borrow.Author.Tests.{ltb-false}
 use Rattle.limits.specs.Limits.{beyond, outsideBand, outsideSlots, anyBeyond}
-use Rattle.limits.proofs.Beyond.{within-all}
+use Rattle.limits.proofs.Beyond.{within-all, band-accepted, band-not-below}
 use Rattle.limits.proofs.Refusals.{passed, passed-last, none-of-two, SlotsWithin, slots-within}
+use Rattle.limits.proofs.Tests.{neither-holds}
 use Rattle.histogram.specs.Tree.{padded}
 use Rattle.claims.specs.Inner.{InRange}
 use Rattle.build.specs.Building.{valuesRefusal, buildRefusal, destinationShort, scratchShort}
@@ -35,15 +36,6 @@ profile-accepted profile rest none =
       };
     }
 
--- a band that is not refused
-pub band-accepted : (band : ℤ) → outsideBand band ≡ false → natAbs band ≤ 40000
-band-accepted (pos band) inside = ltb-false 40000 band inside
-band-accepted (negsuc below) inside = absurd (subst T inside tt)
-
-neither : (one other : Bool) → (one || other) ≡ false → (one ≡ false) × (other ≡ false)
-neither true other wrong = absurd (subst T wrong tt)
-neither false other none = (refl, none)
-
 pub acceptable : {profile : List ℤ} {rest : ℤ} → ProfileAccepted profile rest → (scratch : List ℤ) → scratchShort (length scratch) ≡ false → Acceptable profile rest scratch
 acceptable accepted scratch long = record {
   some-slot = accepted .slots .some-slot;
@@ -57,7 +49,7 @@ pub buildable : (profile : List ℤ) (rest band : ℤ) (nodes : List ℕ) (value
 buildable profile rest band nodes values scratch same-length none =
     let of-profile = none-of-two (valuesRefusal profile rest) _ none in
     let three = passed 2 (outsideBand band) _ (of-profile .1) in
-    let six = neither (destinationShort profile (length nodes)) (scratchShort (length scratch)) (passed-last 5 _ (three .1)) in
+    let six = neither-holds (destinationShort profile (length nodes)) (scratchShort (length scratch)) (passed-last 5 _ (three .1)) in
     record {
       acceptable = acceptable (profile-accepted profile rest (of-profile .0)) scratch (six .1);
       band-within = band-accepted band (three .0);
@@ -74,10 +66,5 @@ findable profile rest budget scratch none =
 pub build-band-within : (profile : List ℤ) (rest band : ℤ) (places numbers : ℕ) → buildRefusal profile rest band places numbers ≡ 0 → natAbs band ≤ 40000
 build-band-within profile rest band places numbers none = band-accepted band (passed 2 (outsideBand band) _ (none-of-two (valuesRefusal profile rest) _ none .1) .0)
 
--- a band that is not refused is not below 0
-not-below-zero : (band : ℤ) → outsideBand band ≡ false → T (nonNeg band)
-not-below-zero (pos band) inside = tt
-not-below-zero (negsuc below) inside = absurd (subst T inside tt)
-
 pub band-from-zero : (profile : List ℤ) (rest band : ℤ) (places numbers : ℕ) → buildRefusal profile rest band places numbers ≡ 0 → T (nonNeg band)
-band-from-zero profile rest band places numbers none = not-below-zero band (passed 2 (outsideBand band) _ (none-of-two (valuesRefusal profile rest) _ none .1) .0)
+band-from-zero profile rest band places numbers none = band-not-below band (passed 2 (outsideBand band) _ (none-of-two (valuesRefusal profile rest) _ none .1) .0)

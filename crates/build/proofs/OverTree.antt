@@ -5,8 +5,9 @@ use Prim.Native.Nat.{ℕ}
 use native.Mathlib.Omega.{arith}
 use lib.IntN.{ℤ}
 use lib.ListN.{length}
+use Rattle.windows.specs.Scratch.{at}
 use Rattle.subtree.specs.Answer.{slotWindows}
-use Rattle.subtree.specs.Stretch.{Solvable, Counted}
+use Rattle.subtree.specs.Stretch.{Solved, Solvable, Counted}
 use Rattle.subtree.proofs.Slots.{windows-usable}
 use Rattle.trace.specs.Trace.{LevelsFit, LevelsTraced}
 use Rattle.build.specs.Inner.{Searchable, LeastWithin, TreeFits, TreeBuilt}
@@ -28,12 +29,12 @@ module _ (band height value : ℕ) (setpoints : List ℤ) (nodes : List ℕ) (va
       → Searchable band height value budget setpoints later
   searchable later budget same-length counted = record { solvable = solvable-later later same-length; enough = omega (arith, counted .count-is) }
 
-  pub levels-fit : (later : List ℤ) (error count : ℕ) → length later ≡ length before → Counted height value (slotWindows error setpoints) later count → LevelsFit later height value nodes values
-  levels-fit later error count same-length counted = record {
+  pub levels-fit : (later : List ℤ) (error : ℕ) → length later ≡ length before → Solved height (slotWindows error setpoints) (at later) → LevelsFit later height value nodes values
+  levels-fit later error same-length solved = record {
     stretch = record {
       leaves = slotWindows error setpoints;
       usable = windows-usable error (fits .solvable .setpoints-within);
-      solved = counted .solved;
+      solved = solved;
       in-tree = fits .solvable .in-tree;
       long = solvable-later later same-length .room;
     };
@@ -42,10 +43,10 @@ module _ (band height value : ℕ) (setpoints : List ℤ) (nodes : List ℕ) (va
     same-room = fits .same-room;
   }
 
-  pub tree-built : (later last : List ℤ) (budget error again count : ℕ) (nodes′ : List ℕ) (values′ : List ℤ)
-      → Counted height value (slotWindows band setpoints) later budget → LeastWithin band height value budget setpoints error → Counted height value (slotWindows error setpoints) last again
+  pub tree-built : (later last : List ℤ) (budget error count : ℕ) (nodes′ : List ℕ) (values′ : List ℤ)
+      → Counted height value (slotWindows band setpoints) later budget → LeastWithin band height value budget setpoints error → Solved height (slotWindows error setpoints) (at last)
       → LevelsTraced last height value nodes nodes′ values values′ count → TreeBuilt band height value setpoints nodes nodes′ values values′ count error
-  tree-built later last budget error again count nodes′ values′ counted least counted-again traced = record {
+  tree-built later last budget error count nodes′ values′ counted least solved traced = record {
     least = subst (λ (number : ℕ). LeastWithin band height value number setpoints error) (counted .count-is) least;
-    traced = traced .each (slotWindows error setpoints) (counted-again .solved);
+    traced = traced .each (slotWindows error setpoints) solved;
   }

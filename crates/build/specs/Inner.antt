@@ -1,9 +1,11 @@
 -- What inner functions ask and promise. A reader of the promises need not open this file.
 use mathlib.Core.Path.{_≡_}
+use mathlib.Core.Bool.{false}
 use mathlib.Core.List.{List}
 use Prim.Native.Nat.{ℕ, suc, _-_, _≤_, _<_}
 use lib.IntN.{ℤ, pos}
 use lib.ListN.{length, getD, drop}
+use Rattle.limits.specs.Limits.{outsideBand}
 use Rattle.histogram.specs.Tree.{padded}
 use Rattle.histogram.specs.Errors.{setpointOf, greatestError}
 use Rattle.claims.specs.Inner.{InRange}
@@ -13,7 +15,7 @@ use Rattle.subtree.specs.Answer.{slotWindows, termsFor}
 use Rattle.subtree.specs.Stretch.{Solvable}
 use Rattle.trace.specs.Trace.{upperTerms, Traced}
 use Rattle.build.specs.declared.BuildAnswer.{BuildAnswer}
-use Rattle.build.specs.Building.{handedOver}
+use Rattle.build.specs.Building.{valuesRefusal, handedOver}
 
 -- a setpoint for each slot of the tree, filler slots too
 pub record Filled (profile setpoints : List ℤ) : Type 0 where
@@ -45,6 +47,11 @@ pub record TreeFits (band height value : ℕ) (setpoints : List ℤ) (nodes : Li
 pub record TreeBuilt (band height value : ℕ) (setpoints : List ℤ) (nodes nodes′ : List ℕ) (values values′ : List ℤ) (count error : ℕ) : Type 0 where
   pub least : LeastWithin band height value (termsFor band height setpoints value) setpoints error
   pub traced : Traced (tracedFor error height setpoints value) nodes nodes′ values values′ count
+
+-- a profile that building does not refuse
+pub record RightProfile (profile : List ℤ) (rest band : ℤ) : Type 0 where
+  pub setpoints-right : valuesRefusal profile rest ≡ 0
+  pub band-right : outsideBand band ≡ false
 
 -- setpoints, a rest value and scratch that are not refused
 pub record Acceptable (profile : List ℤ) (rest : ℤ) (scratch : List ℤ) : Type 0 where

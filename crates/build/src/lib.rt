@@ -56,13 +56,13 @@ fn refuse_build(setpoints: &[i16], rest: i32, band: i32, places: usize, numbers:
         return wrong;
     }
     if limits::is_outside_band(band) {
-        return 3;
+        return limits::BAND_BEYOND;
     }
     if places < padded_length(setpoints.len()) {
-        return 6;
+        return limits::OUTPUT_SHORT;
     }
     if is_scratch_short(numbers) {
-        return 6;
+        return limits::OUTPUT_SHORT;
     }
     0
 }
@@ -72,13 +72,13 @@ fn refuse_setpoints(setpoints: &[i16], rest: i32) -> u8
     ensures { λ r. ⌜ r ≡ valuesRefusal (now (setpoints .entry)) rest ⌝ }
 {
     if limits::is_outside_slots(setpoints.len()) {
-        return 4;
+        return limits::SLOTS_BEYOND;
     }
     if limits::is_beyond(limits::VALUE_LIMIT, rest) {
-        return 2;
+        return limits::VALUE_BEYOND;
     }
     if limits::is_any_beyond(setpoints) {
-        return 2;
+        return limits::VALUE_BEYOND;
     }
     0
 }
@@ -148,10 +148,10 @@ fn refuse_least_band(setpoints: &[i16], rest: i32, budget: u32, numbers: usize) 
         return wrong;
     }
     if 1023 < budget {
-        return 5;
+        return limits::BUDGET_BEYOND;
     }
     if is_scratch_short(numbers) {
-        return 6;
+        return limits::OUTPUT_SHORT;
     }
     0
 }

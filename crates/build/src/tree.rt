@@ -1,5 +1,6 @@
 // The search for the least band of a tree whose slots all have setpoints, and building there.
 use subtree::count_terms;
+use subtree::solve;
 use trace::trace;
 ghost use mathlib.Core.Path.{_≡_};
 ghost use lib.ListN.{length};
@@ -37,7 +38,7 @@ pub struct TreeAnswer {
     pub error: usize,
 }
 
-// Counts the terms for the band, searches the least band of as many, and traces the terms there.
+// Counts the terms for the band, searches the least band of as many, solves the tree for it and traces the terms.
 pub fn build_tree(
     setpoints: &[i16],
     value: usize,
@@ -53,7 +54,7 @@ pub fn build_tree(
 {
     let budget = count_terms(setpoints, band, value, scratch, height);
     let error = least_band_within(setpoints, value, budget, band, scratch, height);
-    count_terms(setpoints, error, value, scratch, height);
+    solve(setpoints, error, scratch, height);
     let count = trace(scratch, height, value, nodes, values);
     TreeAnswer {
         count: count,

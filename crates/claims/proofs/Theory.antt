@@ -16,6 +16,7 @@ use Rattle.histogram.specs.Restored.{restored, pathNodes}
 use Rattle.histogram.specs.Errors.{setpointOf, slotError, Keeps}
 use Rattle.histogram.proofs.Ascent.{ValidFrom, first-above, first-below, first-within, rest-valid}
 use Rattle.histogram.proofs.Above.{path-of-node}
+use Rattle.histogram.proofs.Within.{restored-within}
 use Rattle.histogram.proofs.Powers.{level-rule, level-only}
 use Rattle.fewest.specs.Node.{placed}
 use Rattle.fewest.specs.Tree.{binary, ancestor}
@@ -59,23 +60,6 @@ listed-from height last end in-tree (term ∷ terms) valid = (
 
 pub valid-is-listed : (n : ℕ) (terms : List Term) → Valid n terms → Listed termNode termValue binary (height n) 40000 0 terms
 valid-is-listed n terms valid = listed-from (height n) 0 (2 * 2 ^ height n) (omega arith) terms (record { passes = valid })
-
--- the value of a term of a valid list is within ±20,000
-term-within : {last end : ℕ} (otherwise : ℤ) (terms : List Term) (node : ℕ) → ValidFrom last end terms → natAbs otherwise ≤ 20000 → natAbs (termOr otherwise terms node) ≤ 20000
-unfolding termOr
-term-within otherwise [] node valid within = within
-term-within otherwise (term ∷ terms) node valid within = split (eqb (term .node) node) (term-within otherwise terms node (rest-valid valid) within)
-  where
-    split : (test : Bool) → natAbs (termOr otherwise terms node) ≤ 20000 → natAbs (cond test (term .value) (termOr otherwise terms node)) ≤ 20000
-    split true later = first-within valid
-    split false later = later
-
--- and so is what is restored from it
-restored-within : {last end : ℕ} (rest : ℤ) (terms : List Term) → ValidFrom last end terms → natAbs rest ≤ 20000 → (count node : ℕ) → natAbs (restored rest terms count node) ≤ 20000
-unfolding restored
-restored-within rest terms valid within zero node = within
-restored-within rest terms valid within (suc count) node =
-    term-within (restored rest terms count (node / 2)) terms node valid (restored-within rest terms valid within count (node / 2))
 
 -- a leaf of the tree over n slots has its height as its level
 leaf-level : (levels node : ℕ) → 2 ^ levels ≤ node → node < 2 ^ suc levels → pathNodes node ≡ suc levels

@@ -38,7 +38,7 @@ pub fn read_number(field: &[u8]) -> NumberAnswer
         };
     }
     NumberAnswer {
-        refusal: 1,
+        refusal: limits::NOT_A_NUMBER,
         number: 0,
     }
 }

@@ -24,7 +24,7 @@ pub fn write_number(number: i32, destination: &mut [u8]) -> WriteAnswer
 {
     if limits::is_beyond(limits::WRITTEN_LIMIT, number) {
         return WriteAnswer {
-            refusal: 2,
+            refusal: limits::VALUE_BEYOND,
             count: 0,
         };
     }
@@ -32,7 +32,7 @@ pub fn write_number(number: i32, destination: &mut [u8]) -> WriteAnswer
     let count = text.count;
     if destination.len() < count {
         return WriteAnswer {
-            refusal: 6,
+            refusal: limits::OUTPUT_SHORT,
             count: 0,
         };
     }

@@ -9,7 +9,7 @@ use profile::read_text;
 ghost use mathlib.Core.Path.{_≡_};
 ghost use Prim.Native.Nat.{_≤_};
 ghost use lib.ListN.{length};
-ghost use Rattle.panel.specs.Inner.{RightProfile};
+ghost use Rattle.build.specs.Inner.{RightProfile};
 
 fn main() {
     // One byte more than the longest text has decides for a text of any length (`first-bytes-read` in profile/proofs/Decided.antt):

@@ -9,3 +9,4 @@ pub mod Paired
 pub mod Powers
 pub mod Refusals
 pub mod Table
+pub mod Within

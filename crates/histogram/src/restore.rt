@@ -16,16 +16,16 @@ pub fn refuse_synopsis(slots: usize, rest: i32, nodes: &[u16], values: &[i16]) -
     ensures { λ r. ⌜ r ≡ synopsisRefusal slots rest (paired (now (nodes .entry)) (now (values .entry))) ⌝ }
 {
     if limits::is_outside_slots(slots) {
-        return 4;
+        return limits::SLOTS_BEYOND;
     }
     if limits::is_beyond(limits::VALUE_LIMIT, rest) {
-        return 2;
+        return limits::VALUE_BEYOND;
     }
     let end = 2 * padded_length(slots);
     if is_valid(end, nodes, values) {
         return 0;
     }
-    8
+    limits::TERMS_WRONG
 }
 
 // One slot's answer.
@@ -68,7 +68,7 @@ pub fn restore_checked_slot(
 {
     if slots <= slot {
         return SlotAnswer {
-            refusal: 10,
+            refusal: limits::NO_SUCH_SLOT,
             setpoint: 0,
         };
     }
@@ -114,7 +114,7 @@ pub fn restore_profile(
         return refusal;
     }
     if setpoints.len() < slots {
-        return 6;
+        return limits::OUTPUT_SHORT;
     }
     let mut restored = [0i16; 1024];
     let padded = padded_length(slots);

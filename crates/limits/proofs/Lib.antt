@@ -4,3 +4,4 @@ pub mod Parts
 pub mod Refusals
 pub mod Shifting
 pub mod Signed
+pub mod Tests

@@ -12,6 +12,27 @@ pub const VALUE_LIMIT: u32 = 20000;
 // The limit of a number that is written out, in hundredths either way.
 pub const WRITTEN_LIMIT: u32 = 40000;
 
+// The rows of document 01's "What the panel turns away", under the names that panel.h gives them; 0 is success.
+pub const NOT_A_NUMBER: u8 = 1;
+
+pub const VALUE_BEYOND: u8 = 2;
+
+pub const BAND_BEYOND: u8 = 3;
+
+pub const SLOTS_BEYOND: u8 = 4;
+
+pub const BUDGET_BEYOND: u8 = 5;
+
+pub const OUTPUT_SHORT: u8 = 6;
+
+pub const NOT_A_RECORD: u8 = 7;
+
+pub const TERMS_WRONG: u8 = 8;
+
+pub const LENGTH_DIFFERS: u8 = 9;
+
+pub const NO_SUCH_SLOT: u8 = 10;
+
 // A number without its sign. In 64 bits the sign of the least number can be turned too.
 pub fn magnitude(number: i32) -> u32
     ensures { λ r. ⌜ r ≡ natAbs number ⌝ }

@@ -23,7 +23,8 @@ use Rattle.claims.specs.Best.{Best}
 use Rattle.build.specs.declared.BuildAnswer.{BuildAnswer}
 use Rattle.build.specs.Building.{buildRefusal, Built, handedOver}
 use Rattle.panel.specs.Results.{packed, textToRecordRefusal, TextToRecord}
-use Rattle.panel.specs.Inner.{RightProfile, RecordBuilt}
+use Rattle.panel.specs.Inner.{RecordBuilt}
+use Rattle.build.specs.Inner.{RightProfile}
 use Rattle.panel.proofs.Texts.{Held}
 use Rattle.panel.proofs.Packing.{refused-result}
 

@@ -13,14 +13,15 @@ use mir.Syntax.{w32}
 use mir.Val.{SFits}
 use Rattle.limits.specs.Answers.{_then_}
 use Rattle.limits.specs.Limits.{beyond, outsideBand, outsideSlots, anyBeyond}
+use Rattle.limits.proofs.Beyond.{band-accepted}
 use Rattle.limits.proofs.Laying.{front-of, room-for}
 use Rattle.limits.proofs.Refusals.{none-of-two, passed, passed-last}
 use Rattle.decimal.specs.Answers.{numberOr}
 use Rattle.profile.specs.Text.{lineNumber, numberRefusal, lineRefusal, valueRefusal, bandRefusal, isEmpty, following, setpointsRefusal, setpointsRead, headRefusal, setpointsText, textRefusal, restOf, bandOf, setpointsOf}
+use Rattle.profile.specs.declared.TextAnswer.{TextAnswer}
 use Rattle.profile.specs.Answers.{TextRead}
 use Rattle.profile.proofs.Checks.{line-within}
-use Rattle.build.proofs.Accepted.{band-accepted}
-use Rattle.panel.specs.Inner.{RightProfile}
+use Rattle.build.specs.Inner.{RightProfile}
 
 -- what is read of the lines of setpoints, where none is refused
 record Lines (room : ℕ) (text : List ℕ) : Type 0 where
@@ -86,17 +87,17 @@ pub record Held (text : List ℕ) (rest band : ℤ) (slots : ℕ) (room : List �
   pub inside : slots ≤ length room
   pub setpoints-are : take slots room ≡ setpointsOf text
 
-pub held : {text : List ℕ} {refusal : ℕ} {rest band : ℤ} {slots : ℕ} {before after : List ℤ} → TextRead text refusal rest band slots before after → refusal ≤ 0
-    → Held text rest band slots after
-held {text} {refusal} {slots = slots} {before} {after} read right =
-    let is-zero : refusal ≡ 0 = omega arith in
-    let slots-are : slots ≡ length (setpointsOf text) = rw is-zero at (read .numbers .slots-is) in
+pub held : {text : List ℕ} {answer : TextAnswer} {before after : List ℤ} → TextRead text answer before after → answer .refusal ≤ 0
+    → Held text (answer .rest) (answer .band) (answer .slots) after
+held {text} {answer} {before} {after} read right =
+    let is-zero : answer .refusal ≡ 0 = omega arith in
+    let slots-are : answer .slots ≡ length (setpointsOf text) = rw is-zero at (read .numbers .slots-is) in
     record {
       not-refused = sym (read .refusal-is) ∙ is-zero;
       rest-is = rw is-zero at (read .numbers .rest-is);
       band-is = rw is-zero at (read .numbers .band-is);
       inside = rw (read .room-is) (omega (arith, room-for (setpointsOf text) before));
-      setpoints-are = rw (read .room-is) (front-of (setpointsOf text) before slots (sym slots-are));
+      setpoints-are = rw (read .room-is) (front-of (setpointsOf text) before (answer .slots) (sym slots-are));
     }
 
 -- the numbers of such a text fit 32 bits

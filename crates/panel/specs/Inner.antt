@@ -1,18 +1,15 @@
 -- What inner functions ask and promise. A reader of the promises need not open this file.
 use mathlib.Core.Path.{_≡_}
-use mathlib.Core.Bool.{false}
 use mathlib.Core.List.{List, []}
 use Prim.Native.Nat.{ℕ, _<_}
 use lib.Dec.{ltb}
 use lib.IntN.{ℤ, natAbs}
 use lib.ListN.{length}
 use Rattle.limits.specs.Answers.{_when_, granted, laid}
-use Rattle.limits.specs.Limits.{outsideBand}
 use Rattle.histogram.specs.declared.Term.{Term}
 use Rattle.histogram.specs.Errors.{greatestError}
 use Rattle.record.specs.Record.{recordLength, recordBytes}
 use Rattle.claims.specs.Best.{Best}
-use Rattle.build.specs.Building.{valuesRefusal}
 use Rattle.panel.specs.Results.{result}
 
 -- numbers that fit four fields
@@ -21,11 +18,6 @@ pub record Fields (refusal first second third : ℕ) : Type 0 where
   pub first-fits : first < 65536
   pub second-fits : second < 65536
   pub third-fits : third < 65536
-
--- a profile that is not refused
-pub record RightProfile (profile : List ℤ) (rest band : ℤ) : Type 0 where
-  pub setpoints-right : valuesRefusal profile rest ≡ 0
-  pub band-right : outsideBand band ≡ false
 
 -- the record of a best synopsis is written, or refused with 6
 pub record RecordBuilt (profile : List ℤ) (rest band : ℤ) (before after : List ℕ) (number : ℕ) : Type 0 where

@@ -9,7 +9,8 @@ use record_write::write_record;
 ghost use mathlib.Core.Path.{_≡_};
 ghost use Rattle.limits.specs.Answers.{_when_};
 ghost use Rattle.panel.specs.Results.{packed, slotResult, againstTextResult, TextToRecord, LeastBandOfText};
-ghost use Rattle.panel.specs.Inner.{Fields, RightProfile, RecordBuilt};
+ghost use Rattle.panel.specs.Inner.{Fields, RecordBuilt};
+ghost use Rattle.build.specs.Inner.{RightProfile};
 
 // A profile text to the record of its best synopsis: bytes written, terms, greatest error.
 #[no_mangle]
@@ -94,7 +95,7 @@ pub extern "C" fn panel_least_band_of_text(text: &[u8], budget: u64) -> u64
         return pack(read.refusal as u64, 0, 0, 0);
     }
     if 1023 < budget {
-        return pack(5, 0, 0, 0);
+        return pack(limits::BUDGET_BEYOND as u64, 0, 0, 0);
     }
     let slots = read.slots;
     let mut scratch = [0i16; 12288];

@@ -18,6 +18,7 @@ use Rattle.decimal.specs.Number.{longestNumber, readsAs}
 use Rattle.decimal.specs.Answers.{numberOr}
 use Rattle.decimal.proofs.ShortNumbers.{either-none, too-long-number}
 use Rattle.profile.specs.Text.{longestLine, longestText, line, ended, following, lineNumber, numberRefusal, lineRefusal, valueRefusal, bandRefusal, isEmpty, setpointsRefusal, setpointsRead, headRefusal, setpointsText, textRefusal, setpointsOf}
+use Rattle.profile.specs.declared.TextAnswer.{TextAnswer}
 use Rattle.profile.specs.Answers.{NumbersOf, TextRead}
 
 -- a front that goes past the first line has the same first line
@@ -210,14 +211,15 @@ pub accepted-is-short : (text : List ℕ) → textRefusal text ≡ 0 → take (s
 accepted-is-short text right = take-all (suc longestText) text (omega (arith, accepted-length text right))
 
 -- so what is read of the first bytes is the answer for the text, refused or not
-pub first-bytes-read : (text : List ℕ) {refusal : ℕ} {rest band : ℤ} {slots : ℕ} {before after : List ℤ} → TextRead (take (suc longestText) text) refusal rest band slots before after
-    → TextRead text refusal rest band slots before after
-first-bytes-read text {refusal} {rest} {band} {slots} {before} read =
-    record { refusal-is = is; numbers = same-numbers refusal is (read .numbers); room-is = read .room-is ∙ ap (λ (l : List ℤ). laid l before) (first-bytes-setpoints text) }
+pub first-bytes-read : (text : List ℕ) {answer : TextAnswer} {before after : List ℤ} → TextRead (take (suc longestText) text) answer before after → TextRead text answer before after
+first-bytes-read text {answer} {before} read =
+    record { refusal-is = is; numbers = same-numbers (answer .refusal) refl; room-is = read .room-is ∙ ap (λ (l : List ℤ). laid l before) (first-bytes-setpoints text) }
   where
-    is : refusal ≡ textRefusal text
+    is : answer .refusal ≡ textRefusal text
     is = read .refusal-is ∙ first-bytes-decide text
 
-    same-numbers : (refusal : ℕ) → refusal ≡ textRefusal text → NumbersOf (take (suc longestText) text) refusal rest band slots → NumbersOf text refusal rest band slots
-    same-numbers zero right numbers = rw (accepted-is-short text (sym right)) at numbers
-    same-numbers (suc refusal) wrong numbers = record { rest-is = numbers .rest-is; band-is = numbers .band-is; slots-is = numbers .slots-is }
+    same-numbers : (refusal : ℕ) → answer .refusal ≡ refusal → NumbersOf text answer
+    same-numbers zero right = rw (accepted-is-short text (sym is ∙ right)) at (read .numbers)
+    same-numbers (suc refusal) wrong =
+        let numbers = read .numbers in
+        record { rest-is = rw wrong (rw wrong at (numbers .rest-is)); band-is = rw wrong (rw wrong at (numbers .band-is)); slots-is = rw wrong (rw wrong at (numbers .slots-is)) }

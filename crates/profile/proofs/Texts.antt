@@ -10,28 +10,28 @@ use lib.Seq.{drop-drop}
 use Rattle.limits.specs.Answers.{laid}
 use Rattle.limits.proofs.Refusals.{first-counts, granted-nothing}
 use Rattle.profile.specs.Text.{isEmpty, following, lineRefusal, valueRefusal, bandRefusal, headRefusal, setpointsText, setpointsRead, textRefusal, setpointsOf}
-use Rattle.profile.specs.Answers.{NumbersOf, TextRead}
+use Rattle.profile.specs.Answers.{textRefused, NumbersOf, TextRead}
 use Rattle.profile.specs.Inner.{LineRead, SetpointsRead}
 use Rattle.profile.proofs.Setpoints.{some-byte, none-read}
 
 -- no numbers beside a refusal
-pub no-numbers : (text : List ℕ) (refusal : ℕ) → 0 < refusal → NumbersOf text refusal (pos 0) (pos 0) 0
+pub no-numbers : (text : List ℕ) (refusal : ℕ) → 0 < refusal → NumbersOf text (textRefused refusal)
 no-numbers text zero wrong = absurd (omega arith)
 no-numbers text (suc refusal) wrong = record { rest-is = refl; band-is = refl; slots-is = refl }
 
 module _ (text : List ℕ) (before : List ℤ) where
   refused : (refusal : ℕ) (after : List ℤ) → 0 < refusal → refusal ≡ textRefusal text → after ≡ laid (setpointsOf text) before
-      → TextRead text refusal (pos 0) (pos 0) 0 before after
+      → TextRead text (textRefused refusal) before after
   refused refusal after wrong is room = record { refusal-is = is; numbers = no-numbers text refusal wrong; room-is = room }
 
   -- a refusal in the first two lines
-  head-wrong : (refusal : ℕ) → 0 < refusal → headRefusal text ≡ refusal → TextRead text refusal (pos 0) (pos 0) 0 before before
+  head-wrong : (refusal : ℕ) → 0 < refusal → headRefusal text ≡ refusal → TextRead text (textRefused refusal) before before
   head-wrong refusal wrong is =
       let nothing : setpointsOf text ≡ [] = rw is (granted-nothing refusal (setpointsRead 512 (setpointsText text)) [] wrong) in
       refused refusal before wrong (sym (rw is (first-counts refusal _ wrong))) (sym (ap (λ (l : List ℤ). laid l before) nothing))
 
   module _ (refusal : ℕ) (rest : ℤ) (bytes : ℕ) (rest-line : LineRead valueRefusal text refusal rest bytes) where
-    pub rest-wrong : 0 < refusal → TextRead text refusal (pos 0) (pos 0) 0 before before
+    pub rest-wrong : 0 < refusal → TextRead text (textRefused refusal) before before
     rest-wrong wrong = head-wrong refusal wrong (rw (← rest-line .refusal-is) (first-counts refusal _ wrong))
 
     module _ (right : refusal ≤ 0) where
@@ -45,7 +45,7 @@ module _ (text : List ℕ) (before : List ℤ) where
         band-of-second : LineRead bandRefusal (following text) refusal′ band bytes′
         band-of-second = rw second-line at band-line
 
-        pub band-wrong : 0 < refusal′ → TextRead text refusal′ (pos 0) (pos 0) 0 before before
+        pub band-wrong : 0 < refusal′ → TextRead text (textRefused refusal′) before before
         band-wrong wrong = head-wrong refusal′ wrong (rw (rest-right, ← band-of-second .refusal-is) refl)
 
         module _ (right′ : refusal′ ≤ 0) where
@@ -55,7 +55,7 @@ module _ (text : List ℕ) (before : List ℤ) where
           third-line : drop (bytes + bytes′) text ≡ setpointsText text
           third-line = sym (drop-drop bytes′ bytes text) ∙ ap (drop bytes′) second-line ∙ band-of-second .rest-is (omega arith)
 
-          pub no-third-line : length text ≡ bytes + bytes′ → TextRead text 4 (pos 0) (pos 0) 0 before before
+          pub no-third-line : length text ≡ bytes + bytes′ → TextRead text (textRefused 4) before before
           no-third-line long =
               let ended : setpointsText text ≡ [] = sym third-line ∙ drop-of-length-le text {i = bytes + bytes′} (omega arith) in
               let nothing : setpointsOf text ≡ [] = rw (head-right, ended) (none-read 512) in
@@ -78,10 +78,10 @@ module _ (text : List ℕ) (before : List ℤ) where
             room : after ≡ laid (setpointsOf text) before
             room = of-third .room-is ∙ ap (λ (l : List ℤ). laid l before) (sym all-setpoints)
 
-            pub setpoint-wrong : 0 < refusal″ → TextRead text refusal″ (pos 0) (pos 0) 0 before after
+            pub setpoint-wrong : 0 < refusal″ → TextRead text (textRefused refusal″) before after
             setpoint-wrong wrong = refused refusal″ after wrong (sym all-lines) room
 
-            pub all-right : refusal″ ≤ 0 → TextRead text 0 rest band count before after
+            pub all-right : refusal″ ≤ 0 → TextRead text (record { refusal = 0; rest = rest; band = band; slots = count }) before after
             all-right none = record {
               refusal-is = omega (arith, all-lines);
               numbers = record {

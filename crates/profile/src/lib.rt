@@ -5,9 +5,8 @@ use crate::line::read_band;
 use crate::line::read_value;
 ghost use mathlib.Core.Path.{_≡_};
 ghost use Prim.Native.Nat.{_≤_};
-ghost use lib.IntN.{pos};
 ghost use lib.ListN.{length};
-ghost use Rattle.profile.specs.Answers.{TextRead, ProfileRead};
+ghost use Rattle.profile.specs.Answers.{textRefused, TextRead, ProfileRead};
 ghost use Rattle.profile.specs.Inner.{SetpointsRead};
 
 // The bytes of the longest line, `-200,00` and its byte 10, and of the longest text: such lines for the rest value, the band and 512 setpoints.
@@ -25,7 +24,7 @@ pub struct TextAnswer {
 
 // Reads a profile text; its setpoints are laid over the front of `destination`.
 pub fn read_profile(text: &[u8], destination: &mut [i16]) -> TextAnswer
-    ensures { λ r. ⌜ ProfileRead (now (text .entry)) (r .refusal) (r .rest) (r .band) (r .slots) (now (destination .entry)) (now (destination .exit)) ⌝ }
+    ensures { λ r. ⌜ ProfileRead (now (text .entry)) r (now (destination .entry)) (now (destination .exit)) ⌝ }
 {
     let mut setpoints = [0i16; 512];
     let answer = read_text(text, &mut setpoints);
@@ -34,7 +33,7 @@ pub fn read_profile(text: &[u8], destination: &mut [i16]) -> TextAnswer
     }
     let slots = answer.slots;
     if destination.len() < slots {
-        return refused(6);
+        return refused(limits::OUTPUT_SHORT);
     }
     limits::lay(&setpoints[..slots], destination);
     answer
@@ -43,7 +42,7 @@ pub fn read_profile(text: &[u8], destination: &mut [i16]) -> TextAnswer
 // Reads a profile text into room for 512 setpoints, for the calls that have no destination of the caller's: they never refuse with 6.
 pub fn read_text(text: &[u8], setpoints: &mut [i16]) -> TextAnswer
     requires { ⌜ 512 ≤ length (now setpoints) ⌝ }
-    ensures { λ r. ⌜ TextRead (now (text .entry)) (r .refusal) (r .rest) (r .band) (r .slots) (now (setpoints .entry)) (now (setpoints .exit)) ⌝ }
+    ensures { λ r. ⌜ TextRead (now (text .entry)) r (now (setpoints .entry)) (now (setpoints .exit)) ⌝ }
 {
     let rest = read_value(text);
     if 0 < rest.refusal {
@@ -56,7 +55,7 @@ pub fn read_text(text: &[u8], setpoints: &mut [i16]) -> TextAnswer
     }
     let setpoints_at = band_at + band.count;
     if text.len() == setpoints_at {
-        return refused(4);
+        return refused(limits::SLOTS_BEYOND);
     }
     let lines = read_setpoints(&text[setpoints_at..], setpoints);
     if 0 < lines.refusal {
@@ -85,7 +84,7 @@ fn read_setpoints(text: &[u8], setpoints: &mut [i16]) -> SetpointsAnswer
     while at < text.len() {
         if count == 512 {
             return SetpointsAnswer {
-                refusal: 4,
+                refusal: limits::SLOTS_BEYOND,
                 count: count,
             };
         }
@@ -107,7 +106,7 @@ fn read_setpoints(text: &[u8], setpoints: &mut [i16]) -> SetpointsAnswer
 }
 
 fn refused(refusal: u8) -> TextAnswer
-    ensures { λ r. ⌜ (r .refusal ≡ refusal) × (r .rest ≡ pos 0) × (r .band ≡ pos 0) × (r .slots ≡ 0) ⌝ }
+    ensures { λ r. ⌜ r ≡ textRefused refusal ⌝ }
 {
     TextAnswer {
         refusal: refusal,

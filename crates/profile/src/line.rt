@@ -23,7 +23,7 @@ pub fn read_value(text: &[u8]) -> LineAnswer
     }
     if limits::is_beyond(limits::VALUE_LIMIT, line.number) {
         return LineAnswer {
-            refusal: 2,
+            refusal: limits::VALUE_BEYOND,
             number: line.number,
             count: line.count,
         };
@@ -41,7 +41,7 @@ pub fn read_band(text: &[u8]) -> LineAnswer
     }
     if limits::is_outside_band(line.number) {
         return LineAnswer {
-            refusal: 3,
+            refusal: limits::BAND_BEYOND,
             number: line.number,
             count: line.count,
         };
@@ -55,7 +55,7 @@ fn read_line(text: &[u8]) -> LineAnswer
 {
     if text.len() == 0 {
         return LineAnswer {
-            refusal: 4,
+            refusal: limits::SLOTS_BEYOND,
             number: 0,
             count: 0,
         };
@@ -70,7 +70,7 @@ fn read_line(text: &[u8]) -> LineAnswer
         };
     }
     LineAnswer {
-        refusal: 1,
+        refusal: limits::NOT_A_NUMBER,
         number: 0,
         count: 0,
     }

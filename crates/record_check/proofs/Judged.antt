@@ -18,25 +18,10 @@ use Rattle.histogram.specs.Errors.{setpointOf, slotError}
 use Rattle.histogram.proofs.Ascent.{ValidFrom, first-within, rest-valid}
 use Rattle.histogram.proofs.Order.{below-or-not}
 use Rattle.histogram.proofs.Powers.{padded-bound}
+use Rattle.histogram.proofs.Within.{restored-within}
 use Rattle.record_check.specs.Checking.{Verdict}
 use Rattle.record_check.specs.Inner.{difference, Comparable, Compared, Judgeable}
 use Rattle.record_check.proofs.Verdicts.{every-same, lowest-same, greatest-same}
-
--- a restored value lies within ±20,000, as the rest value and the terms' values do
-term-within : {last end : ℕ} (otherwise : ℤ) (terms : List Term) (node : ℕ) → ValidFrom last end terms → natAbs otherwise ≤ 20000 → natAbs (termOr otherwise terms node) ≤ 20000
-unfolding termOr
-term-within otherwise [] node proper near = near
-term-within otherwise (term ∷ terms) node proper near = by-test (eqb (term .node) node) (term-within otherwise terms node (rest-valid proper) near)
-  where
-    by-test : (here : Bool) → natAbs (termOr otherwise terms node) ≤ 20000 → natAbs (cond here (term .value) (termOr otherwise terms node)) ≤ 20000
-    by-test true others = first-within proper
-    by-test false others = others
-
-restored-within : {last end : ℕ} (rest : ℤ) (terms : List Term) (count node : ℕ) → ValidFrom last end terms → natAbs rest ≤ 20000 → natAbs (restored rest terms count node) ≤ 20000
-unfolding restored
-restored-within rest terms zero node proper near = near
-restored-within rest terms (suc count) node proper near =
-    term-within (restored rest terms count (node / 2)) terms node proper (restored-within rest terms count (node / 2) proper near)
 
 module _ (profile : List ℤ) (band : ℕ) (rest : ℤ) (nodes : List ℕ) (values : List ℤ) (asked : Judgeable profile band rest nodes values)
     (first : ℕ) (first-is : first ≡ padded (length profile)) (after : List ℤ) (room : 2 * first ≤ length after)
@@ -58,7 +43,7 @@ module _ (profile : List ℤ) (band : ℕ) (rest : ℤ) (nodes : List ℕ) (valu
   part-within : (slot : ℕ) → natAbs (getD part slot (pos 0)) ≤ 20000
   part-within slot =
       ⊎-elim
-      (λ below. rw (slot-value slot below) (restored-within rest (paired nodes values) (pathNodes (padded (length profile) + slot)) _ (record { passes = asked .terms-valid }) (asked .rest-within)))
+      (λ below. rw (slot-value slot below) (restored-within rest (paired nodes values) (record { passes = asked .terms-valid }) (asked .rest-within) (pathNodes (padded (length profile) + slot)) _))
       (λ above. rw (List·getD-eq-default part (pos 0) {n = slot} (omega (arith, part-long))) (omega arith))
       (below-or-not slot first)
 

@@ -209,7 +209,7 @@ fn for_places(places: usize, header: HeaderAnswer) -> HeaderAnswer
 {
     if places < header.count {
         return HeaderAnswer {
-            refusal: 6,
+            refusal: limits::OUTPUT_SHORT,
             slots: 0,
             band: 0,
             rest: 0,

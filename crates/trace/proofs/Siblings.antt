@@ -8,6 +8,7 @@ use native.Mathlib.Omega.{arith}
 use lib.Dec.{T}
 use lib.IntN.{ℤ}
 use lib.ListN.{take, drop}
+use Rattle.limits.proofs.Tests.{both-hold}
 use Rattle.windows.specs.Windows.{Window, covers, Sorted, meet}
 use Rattle.windows.specs.Scratch.{at}
 use Rattle.windows.proofs.Sets.{covers-meet, covers-join}
@@ -16,11 +17,6 @@ use Rattle.subtree.specs.Stretch.{answerAt, Usable}
 use Rattle.subtree.proofs.Answers.{apart, answer-sorted, usable-take, usable-drop}
 use Rattle.trace.specs.Trace.{levelTerms, setAt, Handing, HandedDown}
 use Rattle.trace.proofs.Chosen.{handed-on-inside, handed-on-outside, lowest-there}
-
-both-hold : (one other : Bool) → (one && other) ≡ true → (one ≡ true) × (other ≡ true)
-both-hold true true held = (refl, refl)
-both-hold true false held = absurd (false≢true held)
-both-hold false other held = absurd (false≢true held)
 
 -- of two tests exactly one holds where either does and not both
 other-fails : (one other : Bool) → (one || other) ≡ true → (T one → T other → ⊥) → other ≡ not one

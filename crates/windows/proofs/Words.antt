@@ -41,10 +41,6 @@ signed-fits n small = split (ltb n 32768) refl
     split true below = record { sfits = omega (arith, ltb-true n 32768 below) }
     split false above = record { sfits = omega (arith, ltb-false n 32768 above) }
 
--- an element as it is read
-pub read-back : (z : ℤ) → mag z < 2 ^ 15 → toZ w16 (ofZ w16 z) ≡ z
-read-back z small = toZ-ofZ (record { sfits = small })
-
 -- elements are in the order of their numbers
 pub below : (a b : ℤ) → mag a < 2 ^ 15 → mag b < 2 ^ 15 → ltZ a b ≡ true → word a < word b
 below (pos m) (pos n) a-small b-small less = omega (arith, ltb-true m n less)

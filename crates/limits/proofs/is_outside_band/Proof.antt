@@ -1,3 +1,4 @@
+-- `limits::is_outside_band` meets its contract.
 use mathlib.Core.Path.{_≡_, refl, subst}
 use mathlib.Core.Bool.{true, false}
 use lib.Dec.{T}
@@ -9,8 +10,6 @@ use mir.Facts.{toZ-ofZ}
 use Rattle.limits.specs.Limits.{outsideBand}
 use Rattle.limits.proofs.is_outside_band.Statement.{statement}
 use Rattle.limits.proofs.is_outside_band.Tie as tie
-use Rattle.limits.proofs.is_outside_band.Reads as reads
-use Rattle.limits.proofs.is_outside_band.Lts as lts
 
 below : (z : ℤ) → ltZ z (pos 0) ≡ true → true ≡ outsideBand z
 below (pos n) e = absurd (omega (arith, ltb-true n 0 e))
@@ -20,11 +19,9 @@ from-zero : (z : ℤ) → ltZ z (pos 0) ≡ false → ltZ (pos 40000) z ≡ outs
 from-zero (pos n) e = refl
 from-zero (negsuc n) e = absurd (subst T e tt)
 
--- src/lib.rt:36:9
 returns : tie.Need-returns
 returns c = below (c .before .args .band) (rw (toZ-ofZ (c .before .fits .band)) at (c .if1 .taken))
 
--- src/lib.rt:32:1
 returns-2 : tie.Need-returns-2
 returns-2 c = rw (toZ-ofZ (c .before .fits .band)) (from-zero (c .before .args .band) (rw (toZ-ofZ (c .before .fits .band)) at (c .if1 .left)))
 

@@ -1,14 +1,11 @@
+-- `limits::is_outside_slots` meets its contract.
 use borrow.Author.Tests.{eq-eqb, ne-eqb}
 use Rattle.limits.proofs.is_outside_slots.Statement.{statement}
 use Rattle.limits.proofs.is_outside_slots.Tie as tie
-use Rattle.limits.proofs.is_outside_slots.Reads as reads
-use Rattle.limits.proofs.is_outside_slots.Lts as lts
 
--- src/lib.rt:49:9
 returns : tie.Need-returns
 returns c = rw (eq-eqb (c .before .args .slots) 0 (c .if1 .taken))
 
--- src/lib.rt:45:1
 returns-2 : tie.Need-returns-2
 returns-2 c = rw (ne-eqb (c .before .args .slots) 0 (c .if1 .left))
 

@@ -21,7 +21,7 @@ returns : tie.Need-returns
 returns c =
     let a = c .before .before .before .before .before .args in
     let r = c .refused .ensures in
-    rw (r .0, r .1, r .2, r .3) (rest-wrong (a .text .now) (a .setpoints .now) _ _ _ (c .before .before .before .read-value .ensures) (c .before .if1 .taken))
+    rw r (rest-wrong (a .text .now) (a .setpoints .now) _ _ _ (c .before .before .before .read-value .ensures) (c .before .if1 .taken))
 
 sub-read-band : tie.Need-sub-read-band
 sub-read-band c = search needs
@@ -44,7 +44,7 @@ returns-2 c =
     let r = c .refused2 .ensures in
     let text = a .text .now in
     let band = rw (to-end (c .before .before .before .before .before .before .before .read-value .result .count) text) at (c .before .before .before .read-band .ensures) in
-    rw (r .0, r .1, r .2, r .3) (band-wrong text (a .setpoints .now) _ _ _ (c .before .before .before .before .before .before .before .read-value .ensures) (c .before .before .before .before .before .if1 .left) _ _ _ band (c .before .if2 .taken))
+    rw r (band-wrong text (a .setpoints .now) _ _ _ (c .before .before .before .before .before .before .before .read-value .ensures) (c .before .before .before .before .before .if1 .left) _ _ _ band (c .before .if2 .taken))
 
 add-setpoints-at : tie.Need-add-setpoints-at
 add-setpoints-at c = search needs
@@ -58,7 +58,7 @@ returns-3 c =
     let r = c .refused3 .ensures in
     let text = a .text .now in
     let band = rw (to-end (c .before .before .before .before .before .before .before .before .before .read-value .result .count) text) at (c .before .before .before .before .before .read-band .ensures) in
-    rw (r .0, r .1, r .2, r .3)
+    rw r
     (no-third-line text (a .setpoints .now) _ _ _ (c .before .before .before .before .before .before .before .before .before .read-value .ensures) (c .before .before .before .before .before .before .before .if1 .left) _ _ _ band (c .before .before .before .if2 .left) (c .before .if3 .taken))
 
 sub-read-setpoints : tie.Need-sub-read-setpoints
@@ -89,7 +89,7 @@ returns-4 c =
     let count : ℕ = rest .result .count + c .before .before .before .before .before .before .before .before .before .before .before .read-band .result .count in
     let more : count < length text = omega (arith, c .before .before .before .before .before .before .before .if3 .left, rest .ensures .in-text, simp length-drop at (band .in-text)) in
     let lines = rw (to-end count text) at (c .before .before .before .before .read-setpoints .ensures) in
-    rw (r .0, r .1, r .2, r .3)
+    rw r
     (setpoint-wrong text (a .setpoints .now) _ _ _ (rest .ensures) (c .before .before .before .before .before .before .before .before .before .before .before .before .before .if1 .left) _ _ _ band (c .before .before .before .before .before .before .before .before .before .if2 .left) more _ _ _ lines (c .before .if4 .taken))
 
 same-length-2 : tie.Need-same-length-2

@@ -3,7 +3,8 @@ use borrow.Author.Tests.{le-leb, lt-leb}
 use Prim.Native.Nat.{_+_, _*_}
 use lib.IntN.{pos}
 use lib.ListN.{getD}
-use Rattle.windows.proofs.Words.{read-back, same-order}
+use Rattle.limits.proofs.Signed.{element}
+use Rattle.windows.proofs.Words.{same-order}
 use borrow.Author.Needs.{needs}
 use Rattle.windows.proofs.is_right_next.Statement.{statement}
 use Rattle.windows.proofs.is_right_next.Tie as tie
@@ -45,7 +46,7 @@ returns-3 c =
     let a = c .before .before .before .before .args in
     let next = getD (a .scratch .now) (a .right + 2 * a .j) (pos 0) in
     let other = getD (a .scratch .now) (a .left + 2 * a .i) (pos 0) in
-    rw (lt-leb (a .rights) (a .j) (c .before .before .before .if1 .left), lt-leb (a .lefts) (a .i) (c .before .before .if2 .left), read-back next (c .before .result .given), read-back other (c .result2 .given))
+    rw (lt-leb (a .rights) (a .j) (c .before .before .before .if1 .left), lt-leb (a .lefts) (a .i) (c .before .before .if2 .left), element next (c .before .result .given), element other (c .result2 .given))
     (same-order next other (c .before .result .given) (c .result2 .given))
 
 pub is-right-next-spec : {M : Type 1} → statement M

@@ -15,8 +15,8 @@ least-band-within-requires c κs =
     let counted = c .before .before .count-terms in
     searchable (args .band) (args .height) (args .value) (args .setpoints .now) (args .nodes .now) (args .values .now) (args .scratch .now) (start .pre) (counted .last .1 .1 .1 .0) (counted .result) (counted .kept .1 .1 .1 .0) (counted .ensures)
 
-count-terms-requires-2 : tie.Need-count-terms-requires-2
-count-terms-requires-2 c κs = search needs
+solve-requires : tie.Need-solve-requires
+solve-requires c κs = search needs
 
 trace-requires : tie.Need-trace-requires
 trace-requires c κs =
@@ -24,8 +24,8 @@ trace-requires c κs =
     let args = start .args in
     let counted = c .before .before .before .before .before .before .before .before .before .before .count-terms in
     let found = c .before .before .before .before .before .before .before .least-band-within in
-    let again = c .before .before .before .before .count-terms2 in
-    levels-fit (args .band) (args .height) (args .value) (args .setpoints .now) (args .nodes .now) (args .values .now) (args .scratch .now) (start .pre) (again .last .1 .1 .1 .0) (found .result) (again .result) (again .kept .1 .1 .1 .0 ∙ found .kept .1 .1 .1 .1 .0 ∙ counted .kept .1 .1 .1 .0) (again .ensures)
+    let again = c .before .before .before .before .solve in
+    levels-fit (args .band) (args .height) (args .value) (args .setpoints .now) (args .nodes .now) (args .values .now) (args .scratch .now) (start .pre) (again .last .1 .1 .0) (found .result) (again .kept .1 .1 .0 ∙ found .kept .1 .1 .1 .1 .0 ∙ counted .kept .1 .1 .1 .0) (again .ensures)
 
 same-length : tie.Need-same-length
 same-length c = search needs
@@ -42,11 +42,11 @@ returns c =
     let args = start .args in
     let counted = c .before .before .before .before .before .before .before .before .before .before .before .before .before .before .count-terms in
     let found = c .before .before .before .before .before .before .before .before .before .before .before .least-band-within in
-    let again = c .before .before .before .before .before .before .before .before .count-terms2 in
+    let again = c .before .before .before .before .before .before .before .before .solve in
     let traced = c .before .before .before .trace in (
-      tree-built (args .band) (args .height) (args .value) (args .setpoints .now) (args .nodes .now) (args .values .now) (args .scratch .now) (start .pre) (counted .last .1 .1 .1 .0) (again .last .1 .1 .1 .0) (counted .result) (found .result) (again .result) (traced .result) (traced .last .1 .1 .1 .0) (traced .last .1 .1 .1 .1 .0)
+      tree-built (args .band) (args .height) (args .value) (args .setpoints .now) (args .nodes .now) (args .values .now) (args .scratch .now) (start .pre) (counted .last .1 .1 .1 .0) (again .last .1 .1 .0) (counted .result) (found .result) (traced .result) (traced .last .1 .1 .1 .0) (traced .last .1 .1 .1 .1 .0)
           (counted .ensures) (found .ensures .0) (again .ensures) (traced .ensures),
-      again .kept .1 .1 .1 .0 ∙ found .kept .1 .1 .1 .1 .0 ∙ counted .kept .1 .1 .1 .0,
+      again .kept .1 .1 .0 ∙ found .kept .1 .1 .1 .1 .0 ∙ counted .kept .1 .1 .1 .0,
     )
 
 pub build-tree-spec : {M : Type 1} → statement M
@@ -55,7 +55,7 @@ build-tree-spec =
     (tie.spec
     count-terms-requires
     least-band-within-requires
-    count-terms-requires-2
+    solve-requires
     trace-requires
     same-length
     same-length-2

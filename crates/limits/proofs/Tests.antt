@@ -1,0 +1,12 @@
+-- Two tests of which both hold, and two of which neither does.
+use mathlib.Core.Path.{_≡_, refl}
+use mathlib.Core.Bool.{Bool, true, false, _&&_, _||_, true≢false, false≢true}
+
+pub both-hold : (one other : Bool) → (one && other) ≡ true → (one ≡ true) × (other ≡ true)
+both-hold true true held = (refl, refl)
+both-hold true false held = absurd (false≢true held)
+both-hold false other held = absurd (false≢true held)
+
+pub neither-holds : (one other : Bool) → (one || other) ≡ false → (one ≡ false) × (other ≡ false)
+neither-holds true other held = absurd (true≢false held)
+neither-holds false other held = (refl, held)
