@@ -27,6 +27,9 @@ returns c =
     let read = c .before .before .before .before .before .read-text in
     least-refused (args .text .now) (args .budget) (read .result .refusal) (c .pack .result) (read .ensures .refusal-is) (omega arith) (c .pack .ensures)
 
+cast-pack-2 : tie.Need-cast-pack-2
+cast-pack-2 c = search needs
+
 pack-requires-2 : tie.Need-pack-requires-2
 pack-requires-2 c κs = search needs
 
@@ -51,8 +54,8 @@ slice-aggregate-least-band-2 c = search needs
 least-band-requires : tie.Need-least-band-requires
 least-band-requires c κs = search needs
 
-cast-pack-2 : tie.Need-cast-pack-2
-cast-pack-2 c = search needs
+cast-pack-3 : tie.Need-cast-pack-3
+cast-pack-3 c = search needs
 
 pack-requires-3 : tie.Need-pack-requires-3
 pack-requires-3 c κs = search needs
@@ -76,6 +79,7 @@ panel-least-band-of-text-spec =
     cast-pack
     pack-requires
     returns
+    cast-pack-2
     pack-requires-2
     returns-2
     array-share-prefix-setpoints
@@ -83,6 +87,6 @@ panel-least-band-of-text-spec =
     cast-least-band
     slice-aggregate-least-band-2
     least-band-requires
-    cast-pack-2
+    cast-pack-3
     pack-requires-3
     returns-3)
