@@ -1,3 +1,6 @@
-pub mod Pieces
+pub mod Layouts
+pub mod Bounds
+pub mod Fill
 pub mod RoundTrips
+pub mod Table
 pub mod Tests

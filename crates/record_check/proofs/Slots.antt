@@ -11,10 +11,10 @@ use borrow.Author.Tests.{ne-eqb, le-ltb, not-false}
 use Rattle.limits.specs.Answers.{_when_, _then_}
 use Rattle.limits.specs.Limits.{beyond, outsideSlots}
 use Rattle.limits.proofs.Refusals.{first-counts, granted-nothing, none-of-two, passed, passed-last}
-use Rattle.bits.proofs.Bytes.{field-below}
 use Rattle.histogram.specs.Terms.{paired, valid}
 use Rattle.histogram.specs.Restoring.{synopsisRefusal, SlotRestored}
 use Rattle.record.specs.Record.{slotsIn, bandIn, restIn, termsIn, wellFormed}
+use Rattle.record.proofs.Bounds.{few-slots}
 use Rattle.record.specs.Answers.{headerRefusal, recordRefusal}
 use Rattle.record_read.specs.Inner.{RoomRead}
 use Rattle.record_read.proofs.Accepted as Accepted
@@ -23,7 +23,7 @@ use Rattle.record_check.specs.Checking.{SlotRead}
 
 -- a record's slots are those of a profile
 pub slots-inside : (bytes : List ℕ) → outsideSlots (slotsIn bytes) ≡ false
-slots-inside bytes = rw (ne-eqb (slotsIn bytes) 0 (λ same. omega arith)) (le-ltb 512 (slotsIn bytes) (omega (arith, field-below bytes 4 9)))
+slots-inside bytes = rw (ne-eqb (slotsIn bytes) 0 (λ same. omega arith)) (le-ltb 512 (slotsIn bytes) (few-slots bytes))
 
 -- where the record is not refused, neither is its synopsis
 pub record Sound (bytes : List ℕ) : Type 0 where

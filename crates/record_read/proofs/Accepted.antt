@@ -4,12 +4,11 @@ use mathlib.Core.List.{List, []}
 use Prim.Native.Nat.{ℕ, _≤_, _<_}
 use native.Mathlib.Omega.{arith}
 use lib.IntN.{ℤ, pos}
-use lib.ListN.{length, take, drop}
+use lib.ListN.{length, take}
 use borrow.Author.Tests.{lt-ltb, le-ltb}
 use Rattle.limits.specs.Answers.{laid}
 use Rattle.limits.proofs.Laying.{front-of, room-for}
 use Rattle.limits.proofs.Refusals.{first-counts, granted-nothing, none-of-two}
-use Rattle.bits.specs.Bits.{bitsOf}
 use Rattle.histogram.specs.Terms.{nodesOf, valuesOf}
 use Rattle.record.specs.Record.{slotsIn, bandIn, restIn, countIn, termsIn}
 use Rattle.record.specs.Answers.{headerRefusal, recordRefusal, RecordRead}
@@ -56,10 +55,10 @@ module _ (bytes : List ℕ) (refusal slots : ℕ) (band rest : ℤ) (count : ℕ
     values-in-room = read .values-are ∙ rw header-right
 
     long-nodes : length (nodesOf (termsIn bytes)) ≡ count
-    long-nodes = nodes-long (countIn bytes) (drop 55 (bitsOf bytes)) ∙ sym count-is
+    long-nodes = nodes-long (countIn bytes) bytes ∙ sym count-is
 
     long-values : length (valuesOf (termsIn bytes)) ≡ count
-    long-values = values-long (countIn bytes) (drop 55 (bitsOf bytes)) ∙ sym count-is
+    long-values = values-long (countIn bytes) bytes ∙ sym count-is
 
     pub room-nodes : take count nodes′ ≡ nodesOf (termsIn bytes)
     room-nodes = rw nodes-in-room (front-of (nodesOf (termsIn bytes)) nodes count long-nodes)

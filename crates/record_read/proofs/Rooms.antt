@@ -6,21 +6,20 @@ use Prim.Native.Nat.{ℕ, _*_, _≤_, _<_}
 use native.Mathlib.Omega.{arith}
 use lib.Dec.{ltb}
 use lib.IntN.{ℤ, pos}
-use lib.ListN.{length, take, drop}
+use lib.ListN.{length, take}
 use borrow.Author.Tests.{not-false}
 use Rattle.limits.specs.Answers.{_when_, _then_, granted, laid}
 use Rattle.limits.specs.Limits.{beyond}
 use Rattle.limits.proofs.Laying.{front-of, room-for}
 use Rattle.limits.proofs.Refusals.{first-counts, granted-nothing, passed}
-use Rattle.bits.specs.Bits.{bitsOf}
-use Rattle.bits.proofs.Bytes.{field-below}
 use Rattle.histogram.specs.Tree.{padded}
 use Rattle.histogram.specs.Terms.{paired, nodesOf, valuesOf, validFrom, valid}
 use Rattle.histogram.proofs.Paired.{paired-again}
-use Rattle.record.specs.Record.{recordLength, slotsIn, bandIn, restIn, countIn, termsFrom, termsIn, wellFormed}
+use Rattle.record.specs.Record.{recordLength, slotsIn, bandIn, restIn, countIn, termsIn, wellFormed}
 use Rattle.record.specs.Answers.{headerRefusal}
+use Rattle.record.proofs.Bounds
 use Rattle.record.proofs.RoundTrips.{well-formed-parts}
-use Rattle.record_read.specs.Inner.{Framed, HeaderRead, TermsRead, RoomRead}
+use Rattle.record_read.specs.Inner.{Framed, HeaderRead, firstTerms, TermsRead, RoomRead}
 use Rattle.record_read.proofs.Frames.{no-header}
 use Rattle.record_read.proofs.Terms.{nodes-long, values-long}
 
@@ -50,35 +49,35 @@ module _ (bytes : List ℕ) (refusal slots : ℕ) (band rest : ℤ) (count : ℕ
     slots-are = rw none at (read .header .slots-is)
 
     pub framed : Framed bytes count
-    framed = record { few = omega (arith, count-is, field-below bytes 45 10); long = well-formed-parts bytes well-formed .2 ∙ ap recordLength (sym count-is) }
+    framed = record { few = omega (arith, count-is, Bounds.few-terms bytes); long = well-formed-parts bytes well-formed .2 ∙ ap recordLength (sym count-is) }
 
     pub few-slots : slots ≤ 512
-    few-slots = omega (arith, slots-are, field-below bytes 4 9)
+    few-slots = rw slots-are (Bounds.few-slots bytes)
 
     module _ (nodes nodes′ : List ℕ) (values values′ : List ℤ) (terms : TermsRead bytes count nodes nodes′ values values′) where
-      pub nodes-front : take count nodes′ ≡ nodesOf (termsFrom count (drop 55 (bitsOf bytes)))
-      nodes-front = rw (terms .nodes-are) (front-of (nodesOf (termsFrom count (drop 55 (bitsOf bytes)))) nodes count (nodes-long count (drop 55 (bitsOf bytes))))
+      pub nodes-front : take count nodes′ ≡ nodesOf (firstTerms count bytes)
+      nodes-front = rw (terms .nodes-are) (front-of (nodesOf (firstTerms count bytes)) nodes count (nodes-long count bytes))
 
-      pub values-front : take count values′ ≡ valuesOf (termsFrom count (drop 55 (bitsOf bytes)))
-      values-front = rw (terms .values-are) (front-of (valuesOf (termsFrom count (drop 55 (bitsOf bytes)))) values count (values-long count (drop 55 (bitsOf bytes))))
+      pub values-front : take count values′ ≡ valuesOf (firstTerms count bytes)
+      values-front = rw (terms .values-are) (front-of (valuesOf (firstTerms count bytes)) values count (values-long count bytes))
 
       pub in-nodes : count ≤ length nodes′
       in-nodes =
           rw (terms .nodes-are)
-          (omega (arith, room-for (nodesOf (termsFrom count (drop 55 (bitsOf bytes)))) nodes, nodes-long count (drop 55 (bitsOf bytes))))
+          (omega (arith, room-for (nodesOf (firstTerms count bytes)) nodes, nodes-long count bytes))
 
       pub in-values : count ≤ length values′
       in-values =
           rw (terms .values-are)
-          (omega (arith, room-for (valuesOf (termsFrom count (drop 55 (bitsOf bytes)))) values, values-long count (drop 55 (bitsOf bytes))))
+          (omega (arith, room-for (valuesOf (firstTerms count bytes)) values, values-long count bytes))
 
-      terms-same : termsFrom count (drop 55 (bitsOf bytes)) ≡ termsIn bytes
-      terms-same = ap (λ (k : ℕ). termsFrom k (drop 55 (bitsOf bytes))) count-is
+      terms-same : firstTerms count bytes ≡ termsIn bytes
+      terms-same = ap (λ (k : ℕ). firstTerms k bytes) count-is
 
       -- what the test of the terms tests
       pub tested : (end : ℕ) → end ≡ 2 * padded slots → validFrom 0 end (paired (take count nodes′) (take count values′)) ≡ valid (slotsIn bytes) (termsIn bytes)
       tested end is =
-          rw (nodes-front, values-front, paired-again (termsFrom count (drop 55 (bitsOf bytes))), terms-same, is, slots-are)
+          rw (nodes-front, values-front, paired-again (firstTerms count bytes), terms-same, is, slots-are)
 
       nodes-in-room : nodes′ ≡ laid (granted (headerRefusal bytes) (nodesOf (termsIn bytes)) []) nodes
       nodes-in-room = terms .nodes-are ∙ rw (header-right, terms-same)

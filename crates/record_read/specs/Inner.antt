@@ -2,15 +2,17 @@
 use mathlib.Core.Path.{_≡_}
 use mathlib.Core.Bool.{Bool, true}
 use mathlib.Core.List.{List, []}
-use Prim.Native.Nat.{ℕ, _+_, _*_, _≤_}
+use Prim.Native.Nat.{ℕ, _≤_}
 use lib.Dec.{ltb}
 use lib.IntN.{ℤ, pos}
 use lib.ListN.{length, drop}
 use Rattle.limits.specs.Answers.{_when_, _then_, granted, laid}
 use Rattle.limits.specs.Limits.{beyond}
 use Rattle.bits.specs.Bits.{numberOf, bitsOf}
+use Rattle.histogram.specs.declared.Term.{Term}
 use Rattle.histogram.specs.Terms.{nodesOf, valuesOf}
-use Rattle.record.specs.Record.{recordLength, slotsIn, bandIn, restIn, countIn, termsFrom, termsIn, wellFormed}
+use Rattle.record.specs.Layout.{layoutWidth}
+use Rattle.record.specs.Record.{headerLayout, termsEnd, recordLength, slotsIn, bandIn, restIn, countIn, termsFrom, termsIn, wellFormed}
 use Rattle.record.specs.Answers.{headerRefusal, recordRefusal, HeaderOf}
 
 -- a record read into room for 1,023 terms, for the calls that have no destination of the caller's; the room holds the terms where the header is not refused
@@ -37,7 +39,7 @@ pub record Framed (bytes : List ℕ) (count : ℕ) : Type 0 where
 
 -- the bits after the last of that many terms, as a number
 abbrev pub fillAfter : ℕ → List ℕ → ℕ
-fillAfter count bytes = numberOf (drop (55 + 26 * count) (bitsOf bytes))
+fillAfter count bytes = numberOf (drop (termsEnd count) (bitsOf bytes))
 
 -- what is wrong with the rest value and the band of a well-formed record
 abbrev pub fieldsRefusal : List ℕ → ℕ
@@ -62,7 +64,11 @@ pub record TermsFit (bytes : List ℕ) (count : ℕ) (nodes : List ℕ) (values 
   pub in-nodes : count ≤ length nodes
   pub in-values : count ≤ length values
 
--- that many terms, laid over the room
+-- that many terms behind a header
+abbrev pub firstTerms : ℕ → List ℕ → List Term
+firstTerms count bytes = termsFrom count (layoutWidth headerLayout) bytes
+
+-- these terms, laid over the room
 pub record TermsRead (bytes : List ℕ) (count : ℕ) (nodes nodes′ : List ℕ) (values values′ : List ℤ) : Type 0 where
-  pub nodes-are : nodes′ ≡ laid (nodesOf (termsFrom count (drop 55 (bitsOf bytes)))) nodes
-  pub values-are : values′ ≡ laid (valuesOf (termsFrom count (drop 55 (bitsOf bytes)))) values
+  pub nodes-are : nodes′ ≡ laid (nodesOf (firstTerms count bytes)) nodes
+  pub values-are : values′ ≡ laid (valuesOf (firstTerms count bytes)) values

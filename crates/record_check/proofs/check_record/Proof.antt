@@ -4,9 +4,9 @@ use native.Mathlib.Omega.{arith}
 use mir.Syntax.{w32}
 use mir.Val.{SFits, Fits}
 use mir.Facts.{toZ-ofZ}
-use Rattle.bits.proofs.Bytes.{field-below}
 use Rattle.limits.proofs.Signed.{narrower, narrower-fits}
 use Rattle.record.specs.Record.{bandIn}
+use Rattle.record.proofs.Bounds.{band-bound}
 use Rattle.record_read.proofs.Accepted as Accepted
 use Rattle.record_check.proofs.Checks as Checks
 use borrow.Author.Needs.{needs}
@@ -83,7 +83,7 @@ cast-judge c =
     let a = c .before .before .before .before .before .before .before .before .before .before .before .before .before .before .before .before .args in
     let room = c .before .before .before .before .before .before .before .before .before .before in
     let band = Checks.band-is (a .setpoints .now) (a .bytes .now) _ _ _ _ _ _ _ _ _ (room .read-into-room .ensures) (c .before .before .before .before .before .before .if2 .left) in
-    let fits : Fits w32 (bandIn (a .bytes .now)) = omega (arith, field-below (a .bytes .now) 13 16) in
+    let fits : Fits w32 (bandIn (a .bytes .now)) = omega (arith, band-bound (a .bytes .now)) in
     rw (toZ-ofZ (band-fits room), band) (tt, fits)
 
 cast-judge-2 : tie.Need-cast-judge-2

@@ -6,9 +6,9 @@ use mir.Syntax.{w16, w32}
 use mir.Val.{SFits, toZ}
 use mir.Facts.{toZ-ofZ, sfits-widen}
 use mir.ValLaws.{toZ-pos}
-use Rattle.bits.proofs.Bytes.{field-below}
 use Rattle.limits.proofs.Signed.{widened-to}
 use Rattle.record.specs.Record.{bandIn, restIn}
+use Rattle.record.proofs.Bounds.{band-bound}
 use Rattle.record_read.proofs.Frames.{rest-wrong, band-wrong, fields-right}
 use borrow.Author.Needs.{needs}
 use Rattle.record_read.proofs.read_fields.Statement.{statement}
@@ -24,7 +24,7 @@ band-read : (c : tie.After-read) → toZ w32 (c .read .result) ≡ pos (bandIn (
 band-read c =
     let bytes = c .before .before .before .before .before .before .args .bytes .now in
     let is = rw (c .before .before .before .before .places .ensures .of-band) at (c .read .ensures) in
-    toZ-pos w32 (c .read .result) (omega (arith, is, field-below bytes 13 16)) ∙ ap pos is
+    toZ-pos w32 (c .read .result) (omega (arith, is, band-bound bytes)) ∙ ap pos is
 
 places-requires : tie.Need-places-requires
 places-requires c κs = search needs
