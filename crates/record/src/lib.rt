@@ -23,7 +23,7 @@ pub struct FieldPlaces {
 }
 
 pub fn places() -> FieldPlaces
-    ensures { λ r. ⌜ PlacesAre (r .length .at) (r .band .at) (r .rest .at) (r .count .at) (r .terms .at) ⌝ }
+    ensures { λ r. ⌜ PlacesAre r ⌝ }
 {
     let length = BitPlace::start().after(BitPlace::VERSION);
     let band = length.after(BitPlace::LENGTH);

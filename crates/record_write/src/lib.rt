@@ -12,7 +12,8 @@ ghost use Rattle.bits.specs.Bits.{bitsOf, replacedAt};
 ghost use Rattle.histogram.specs.Terms.{paired};
 ghost use Rattle.record.specs.Layout.{layoutWidth};
 ghost use Rattle.record.specs.Record.{headerLayout, headerBits, termsBits, termsEnd, recordBytes};
-ghost use Rattle.record.specs.Answers.{packingRefusal, RecordWritten};
+ghost use Rattle.record.specs.Answers.{packingRefusal};
+ghost use Rattle.record_write.specs.Writing.{RecordWritten};
 ghost use Rattle.record_write.specs.Inner.{RecordFits, HeaderFits, TermsFit, TermFits, TermPut, FillFits, filled};
 
 // The refusal, or 0 and how many bytes were written.
@@ -31,7 +32,7 @@ pub fn write_record(
     destination: &mut [u8],
 ) -> WriteAnswer
     requires { ⌜ length (now nodes) ≡ length (now values) ⌝ }
-    ensures { λ r. ⌜ RecordWritten slots band rest (paired (now (nodes .entry)) (now (values .entry))) (r .refusal) (r .count) (now (destination .entry)) (now (destination .exit)) ⌝ }
+    ensures { λ r. ⌜ RecordWritten slots band rest (paired (now (nodes .entry)) (now (values .entry))) r (now (destination .entry)) (now (destination .exit)) ⌝ }
 {
     let refusal = refuse(slots, band, rest, nodes, values);
     if 0 < refusal {
