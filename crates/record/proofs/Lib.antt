@@ -1,4 +1,5 @@
 pub mod Layouts
+pub mod Entries
 pub mod Bounds
 pub mod Fill
 pub mod RoundTrips

@@ -1,9 +1,9 @@
 -- The two round trips of demand 2, for every header and every list of terms, and for every byte string.
--- Both rest on those of any layout: `Layouts`. A header is a layout at the front, and each term another behind it.
-use mathlib.Core.Path.{_≡_, refl, sym, ap, ap₂, _∙_}
+-- Both rest on those of any layout and of any list of entries, `Layouts` and `Entries`: a header is a layout at the front, and the terms are entries of another behind it.
+use mathlib.Core.Path.{_≡_, sym, ap, ap₂, _∙_}
 use mathlib.Core.Bool.{Bool, true, false, not, _&&_, true≢false}
 use mathlib.Core.List.{List, [], _∷_, _++_, append-assoc}
-use Prim.Native.Nat.{ℕ, zero, suc, _+_, _*_, _-_, _^_, _≤_, _<_}
+use Prim.Native.Nat.{ℕ, _+_, _*_, _-_, _^_, _≤_, _<_}
 use native.Mathlib.Omega.{arith}
 use lib.Dec.{leb, ltb, eqb}
 use lib.IntN.{ℤ, pos, negsuc, natAbs}
@@ -16,7 +16,7 @@ use Rattle.limits.proofs.Refusals.{none-of-two, passed, passed-last, slots-with
 use Rattle.bits.specs.Bits.{numberOf, bitsOf}
 use Rattle.bits.specs.Signed.{signedOf}
 use Rattle.bits.specs.Inner.{Below, SignedBits}
-use Rattle.bits.proofs.Numbers.{append-below, drop-below, nil-below}
+use Rattle.bits.proofs.Numbers.{append-below, drop-below}
 use Rattle.bits.proofs.Bytes.{length-bits-of, bits-of-below, bytes-from-bits}
 use Rattle.bits.proofs.Packing.{length-packed, packed-below, bits-of-packed}
 use Rattle.bits.proofs.Complement.{complement-reads-back, complement-fits}
@@ -31,28 +31,19 @@ use Rattle.record.specs.Answers.{packingRefusal, headerRefusal, recordRe
 use Rattle.record.proofs.Tests.{both-left, both-right}
 use Rattle.record.proofs.Fill.{zeros, number-of-zeros}
 use Rattle.record.proofs.Layouts.{no-row, row, signed-row, length-layout, layout-below, behind-layout, layout-reads-back, layout-is-written}
+use Rattle.record.proofs.Entries.{length-entries, entries-below, length-from, ReadsBack, AllReadBack, none-left, and-more, entries-read-back, entries-are-written}
 
 -- ---- how long the pieces are, and that they are bits
-
-length-terms : (terms : List Term) → length (termsBits terms) ≡ layoutWidth termLayout * length terms
-unfolding termsBits
-length-terms [] = refl
-length-terms (term ∷ terms) = omega (arith, length-append (termBits term) (termsBits terms), length-layout term termLayout, length-terms terms)
-
-terms-below : (terms : List Term) → Below 2 (termsBits terms)
-unfolding termsBits
-terms-below [] = nil-below (omega arith)
-terms-below (term ∷ terms) = append-below _ _ (layout-below term termLayout) (terms-below terms)
 
 module _ (n band : ℕ) (rest : ℤ) (terms : List Term) where
   pub length-header : length (headerBits n band rest (length terms)) ≡ layoutWidth headerLayout
   length-header = length-layout (record { slots = n; band = band; rest = rest; count = length terms }) headerLayout
 
   pub record-below : Below 2 (recordBits n band rest terms)
-  record-below = append-below _ _ (layout-below (record { slots = n; band = band; rest = rest; count = length terms }) headerLayout) (terms-below terms)
+  record-below = append-below _ _ (layout-below (record { slots = n; band = band; rest = rest; count = length terms }) headerLayout) (entries-below termLayout terms)
 
   pub length-record : length (recordBits n band rest terms) ≡ termsEnd (length terms)
-  length-record = length-append (headerBits n band rest (length terms)) (termsBits terms) ∙ ap₂ (λ (a b : ℕ). a + b) length-header (length-terms terms)
+  length-record = length-append (headerBits n band rest (length terms)) (termsBits terms) ∙ ap₂ (λ (a b : ℕ). a + b) length-header (length-entries termLayout terms)
 
   -- the bits of a record's bytes: its fields, then zeros
   pub written-bits : bitsOf (recordBytes n band rest terms) ≡ recordBits n band rest terms ++ replicate (recordLength (length terms) * 8 - length (recordBits n band rest terms)) 0
@@ -60,22 +51,9 @@ module _ (n band : ℕ) (rest : ℤ) (terms : List Term) where
 
 -- ---- an accepted record is byte for byte what writing its header and terms produces
 
-pub length-from : (count place : ℕ) (bytes : List ℕ) → length (termsFrom count place bytes) ≡ count
-unfolding termsFrom
-length-from zero place bytes = refl
-length-from (suc count) place bytes = ap suc (length-from count (place + layoutWidth termLayout) bytes)
-
--- terms that were read from a place on are written as the bits that stand there
-terms-written : (count place : ℕ) (bytes : List ℕ) → place + layoutWidth termLayout * count ≤ 8 * length bytes
-    → termsBits (termsFrom count place bytes) ++ drop (place + layoutWidth termLayout * count) (bitsOf bytes) ≡ drop place (bitsOf bytes)
-unfolding termsBits termsFrom
-terms-written zero place bytes inside = let no-further : place + layoutWidth termLayout * 0 ≡ place = omega arith in ap (λ (k : ℕ). drop k (bitsOf bytes)) no-further
-terms-written (suc count) place bytes inside =
-    let term : Term = termIn place bytes in
-    let next : ℕ = place + layoutWidth termLayout in
-    let end-same : place + layoutWidth termLayout * suc count ≡ next + layoutWidth termLayout * count = omega arith in
-    let numbers-are : layoutNumbers termLayout place bytes ≡ held termLayout term = rw signed-row in
-    rw (append-assoc (termBits term), end-same, terms-written count next bytes (omega arith)) (layout-is-written term termLayout place bytes (omega arith) numbers-are)
+-- a term's numbers are those that the term holds
+term-exact : (place : ℕ) (bytes : List ℕ) → layoutNumbers termLayout place bytes ≡ held termLayout (termIn place bytes)
+term-exact place bytes = rw signed-row
 
 module _ (bytes : List ℕ) where
   -- the header and the terms of enough bytes, one after the other
@@ -85,8 +63,8 @@ module _ (bytes : List ℕ) where
       let header : Header = record { slots = slotsIn bytes; band = bandIn bytes; rest = restIn bytes; count = countIn bytes } in
       let length-is : slotsIn bytes - 1 ≡ getD (headerNumbers bytes) 1 0 = omega arith in
       let numbers-are : headerNumbers bytes ≡ held headerLayout header = rw (version, length-is, signed-row) in
-      let count-is : length (termsIn bytes) ≡ countIn bytes = length-from (countIn bytes) (layoutWidth headerLayout) bytes in
-      rw (count-is, append-assoc (headerBits (slotsIn bytes) (bandIn bytes) (restIn bytes) (countIn bytes)), terms-written (countIn bytes) (layoutWidth headerLayout) bytes inside) (layout-is-written header headerLayout 0 bytes (omega arith) numbers-are)
+      let count-is : length (termsIn bytes) ≡ countIn bytes = length-from termLayout termIn (countIn bytes) (layoutWidth headerLayout) bytes in
+      rw (count-is, append-assoc (headerBits (slotsIn bytes) (bandIn bytes) (restIn bytes) (countIn bytes)), entries-are-written termLayout termIn term-exact (countIn bytes) (layoutWidth headerLayout) bytes inside) (layout-is-written header headerLayout 0 bytes (omega arith) numbers-are)
 
   -- what a well-formed record has
   pub well-formed-parts : wellFormed bytes ≡ true → (7 ≤ length bytes) × (versionIn bytes ≡ 1) × (length bytes ≡ recordLength (countIn bytes)) × (fillIn bytes ≡ 0)
@@ -107,7 +85,7 @@ module _ (bytes : List ℕ) where
   well-formed-is-written all-bytes right =
       let parts = well-formed-parts right in
       let end : ℕ = termsEnd (countIn bytes) in
-      let count-is : length (termsIn bytes) ≡ countIn bytes = length-from (countIn bytes) (layoutWidth headerLayout) bytes in
+      let count-is : length (termsIn bytes) ≡ countIn bytes = length-from termLayout termIn (countIn bytes) (layoutWidth headerLayout) bytes in
       let written : List ℕ = recordBits (slotsIn bytes) (bandIn bytes) (restIn bytes) (termsIn bytes) in
       let written-long : length written ≡ end = length-record (slotsIn bytes) (bandIn bytes) (restIn bytes) (termsIn bytes) ∙ ap termsEnd count-is in
       let fill-long : length (drop end (bitsOf bytes)) ≡ recordLength (length (termsIn bytes)) * 8 - length written = simp length-drop (omega (arith, parts .2, length-bits-of bytes)) in
@@ -126,27 +104,17 @@ module _ (bytes : List ℕ) where
 
 -- ---- writing and then reading gives the same header and terms
 
--- a term that fits its fields
-record TermFits (term : Term) : Type 0 where
-  node-fits : term .node < 2 ^ 10
-  value-fits : SignedBits 16 (term .value)
-
-data AllFit : List Term → Type 0 where
-  none-left : AllFit []
-  and-more : {term : Term} {terms : List Term} → TermFits term → AllFit terms → AllFit (term ∷ terms)
-
-terms-read : (terms : List Term) (place : ℕ) (bytes back : List ℕ) → AllFit terms → drop place (bitsOf bytes) ≡ termsBits terms ++ back → termsFrom (length terms) place bytes ≡ terms
-unfolding termsFrom termsBits
-terms-read [] place bytes back none-left stand = refl
-terms-read (term ∷ terms) place bytes back (and-more fits others) stand =
-    let first-stands : drop place (bitsOf bytes) ≡ termBits term ++ (termsBits terms ++ back) = stand ∙ append-assoc (termBits term) (termsBits terms) back in
-    let numbers : layoutNumbers termLayout place bytes ≡ held termLayout term =
-    layout-reads-back term termLayout place bytes _ (row (fits .node-fits) (row (complement-fits 16 (term .value) (fits .value-fits)) no-row)) first-stands in
-    let value-is : signedOf 16 (getD (layoutNumbers termLayout place bytes) 1 0) ≡ term .value =
-    ap (λ (l : List ℕ). signedOf 16 (getD l 1 0)) numbers ∙ complement-reads-back 16 (term .value) (fits .value-fits) in
-    let term-is : termIn place bytes ≡ term = (λ i. record { node = getD (numbers i) 0 0; value = value-is i }) in
-    ap₂ (λ (t : Term) (ts : List Term). t ∷ ts) term-is
-    (terms-read terms (place + layoutWidth termLayout) bytes back others (behind-layout term termLayout place (bitsOf bytes) _ first-stands))
+-- a term that fits its fields reads back
+term-reads-back : (term : Term) → term .node < 2 ^ 10 → SignedBits 16 (term .value) → ReadsBack termLayout termIn term
+term-reads-back term node-fits value-fits = record { reads = there }
+  where
+    there : (place : ℕ) (bytes back : List ℕ) → drop place (bitsOf bytes) ≡ termBits term ++ back → termIn place bytes ≡ term
+    there place bytes back stands =
+        let numbers : layoutNumbers termLayout place bytes ≡ held termLayout term =
+        layout-reads-back term termLayout place bytes back (row node-fits (row (complement-fits 16 (term .value) value-fits) no-row)) stands in
+        let value-is : signedOf 16 (getD (layoutNumbers termLayout place bytes) 1 0) ≡ term .value =
+        ap (λ (l : List ℕ). signedOf 16 (getD l 1 0)) numbers ∙ complement-reads-back 16 (term .value) value-fits in
+        λ i. record { node = getD (numbers i) 0 0; value = value-is i }
 
 -- what bytes read as is a header and terms
 pub record ReadsAs (bytes : List ℕ) (n band : ℕ) (rest : ℤ) (terms : List Term) : Type 0 where
@@ -158,7 +126,7 @@ pub record ReadsAs (bytes : List ℕ) (n band : ℕ) (rest : ℤ) (terms : List 
   pub terms-same : termsIn bytes ≡ terms
 
 module _ (n band : ℕ) (rest : ℤ) (terms : List Term) (slots-fit : n - 1 < 2 ^ 9) (some-slot : 1 ≤ n) (band-fits : band < 2 ^ 16) (rest-fits : SignedBits 16 rest)
-    (few : length terms < 2 ^ 10) (terms-fit : AllFit terms) where
+    (few : length terms < 2 ^ 10) (terms-fit : AllReadBack termLayout termIn terms) where
   fields-read-back : ReadsAs (recordBytes n band rest terms) n band rest terms
   fields-read-back =
       let bytes : List ℕ = recordBytes n band rest terms in
@@ -174,7 +142,7 @@ module _ (n band : ℕ) (rest : ℤ) (terms : List Term) (slots-fit : n - 1 < 2 
       let fill-stands : drop (termsEnd (countIn bytes)) (bitsOf bytes) ≡ fill =
       ap (λ (k : ℕ). drop (termsEnd k) (bitsOf bytes)) count-is
       ∙ sym (drop-drop (layoutWidth termLayout * length terms) (layoutWidth headerLayout) (bitsOf bytes))
-      ∙ rw terms-stand (drop-at (termsBits terms) fill (layoutWidth termLayout * length terms) (length-terms terms)) in
+      ∙ rw terms-stand (drop-at (termsBits terms) fill (layoutWidth termLayout * length terms) (length-entries termLayout terms)) in
       let fill-is : fillIn bytes ≡ 0 = ap numberOf fill-stands ∙ number-of-zeros (recordLength (length terms) * 8 - length (recordBits n band rest terms)) in
       let long : length bytes ≡ recordLength (length terms) = length-packed (recordLength (length terms)) (recordBits n band rest terms) in
       let long-enough : leb 7 (length bytes) ≡ true = le-leb 7 (length bytes) (omega arith) in
@@ -185,7 +153,7 @@ module _ (n band : ℕ) (rest : ℤ) (terms : List Term) (slots-fit : n - 1 < 2 
         band-same = in-row 2;
         rest-same = ap (signedOf 16) (in-row 3) ∙ complement-reads-back 16 rest rest-fits;
         count-same = count-is;
-        terms-same = ap (λ (k : ℕ). termsFrom k (layoutWidth headerLayout) bytes) count-is ∙ terms-read terms (layoutWidth headerLayout) bytes fill terms-fit terms-stand;
+        terms-same = ap (λ (k : ℕ). termsFrom k (layoutWidth headerLayout) bytes) count-is ∙ entries-read-back termLayout termIn terms (layoutWidth headerLayout) bytes fill terms-fit terms-stand;
       }
 
 within-signed : (value : ℤ) → natAbs value ≤ 20000 → SignedBits 16 value
@@ -193,11 +161,11 @@ within-signed (pos number) small = record { some = omega arith; small = omega ar
 within-signed (negsuc below) small = record { some = omega arith; small = omega arith }
 
 -- a valid list of terms fits its fields, and is short enough for its count
-valid-fits : {last end : ℕ} (terms : List Term) → end ≤ 2 ^ 10 → ValidFrom last end terms → AllFit terms
+valid-fits : {last end : ℕ} (terms : List Term) → end ≤ 2 ^ 10 → ValidFrom last end terms → AllReadBack termLayout termIn terms
 valid-fits [] small proper = none-left
 valid-fits (term ∷ terms) small proper =
     let node-fits : term .node < 2 ^ 10 = omega (arith, first-below proper) in
-    and-more (record { node-fits = node-fits; value-fits = within-signed (term .value) (first-within proper) }) (valid-fits terms small (rest-valid proper))
+    and-more (term-reads-back term node-fits (within-signed (term .value) (first-within proper))) (valid-fits terms small (rest-valid proper))
 
 pub valid-few : {last end : ℕ} (terms : List Term) → last < end → ValidFrom last end terms → last + length terms < end
 valid-few [] below proper = omega arith

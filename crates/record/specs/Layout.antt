@@ -1,7 +1,8 @@
 -- Layouts: a table of bit fields, a row each, "packed most significant bit first, without gaps": document 01, "The record". For the auditor.
--- `proofs/Layouts.antt` shows for every layout that the two halves belong together: `layout-reads-back` and `layout-is-written`.
+-- `proofs/Layouts.antt` shows for every layout that writing and reading belong together: `layout-reads-back` and `layout-is-written`.
+-- `proofs/Entries.antt` shows it for every list of entries: `entries-read-back` and `entries-are-written`.
 use mathlib.Core.List.{List, [], _∷_, _++_, map}
-use Prim.Native.Nat.{ℕ, _+_}
+use Prim.Native.Nat.{ℕ, zero, suc, _+_}
 use lib.IntN.{ℤ}
 use Rattle.bits.specs.Bits.{bits, fieldAt}
 use Rattle.bits.specs.Signed.{complement}
@@ -37,3 +38,13 @@ layoutNumbers (field ∷ fields) place bytes = fieldAt bytes place (field .width
 -- the numbers that the rows hold of what is written
 abbrev pub held : {A : Type 0} → List (Field A) → A → List ℕ
 held fields it = map (λ field. field .holds it) fields
+
+-- entries of one layout are written one behind the other
+unfoldable pub entriesBits : {A : Type 0} → List (Field A) → List A → List ℕ
+entriesBits layout [] = []
+entriesBits layout (entry ∷ entries) = layoutBits layout entry ++ entriesBits layout entries
+
+-- and `count` of them are read from a place on, each behind the one before
+unfoldable pub entriesFrom : {A : Type 0} → List (Field A) → (ℕ → List ℕ → A) → ℕ → ℕ → List ℕ → List A
+entriesFrom layout read zero place bytes = []
+entriesFrom layout read (suc count) place bytes = read place bytes ∷ entriesFrom layout read count (place + layoutWidth layout) bytes

@@ -1,15 +1,16 @@
 -- The record: document 01, "The record". What is written, in the order of its table, and what bytes read as. For the auditor.
 -- `proofs/RoundTrips.antt` shows that the two halves belong together: `written-reads-back` and `accepted-is-written`.
+-- `proofs/Table.antt` has its widths, places and lengths in the document's numbers.
 use mathlib.Core.Bool.{Bool, _&&_}
 use mathlib.Core.List.{List, [], _∷_, _++_}
-use Prim.Native.Nat.{ℕ, zero, suc, _+_, _*_, _-_, _/_}
+use Prim.Native.Nat.{ℕ, _+_, _*_, _-_, _/_}
 use lib.Dec.{leb, eqb}
 use lib.IntN.{ℤ}
 use lib.ListN.{length, getD, drop}
 use Rattle.bits.specs.Bits.{numberOf, bitsOf, packed}
 use Rattle.bits.specs.Signed.{signedOf}
 use Rattle.histogram.specs.declared.Term.{Term}
-use Rattle.record.specs.Layout.{Field, unsigned, twosComplement, layoutWidth, layoutBits, layoutNumbers}
+use Rattle.record.specs.Layout.{Field, unsigned, twosComplement, layoutWidth, layoutBits, layoutNumbers, entriesBits, entriesFrom}
 
 -- what a header says: n, the band, the rest value and t
 pub record Header : Type 0 where
@@ -42,10 +43,9 @@ headerBits n band rest count = layoutBits headerLayout (record { slots = n; band
 abbrev pub termBits : Term → List ℕ
 termBits term = layoutBits termLayout term
 
--- "t terms", one behind the other
-unfoldable pub termsBits : List Term → List ℕ
-termsBits [] = []
-termsBits (term ∷ terms) = termBits term ++ termsBits terms
+-- "t terms"
+abbrev pub termsBits : List Term → List ℕ
+termsBits terms = entriesBits termLayout terms
 
 -- the fields "packed most significant bit first, without gaps"
 abbrev pub recordBits : ℕ → ℕ → ℤ → List Term → List ℕ
@@ -90,9 +90,8 @@ termIn place bytes =
     record { node = getD numbers 0 0; value = signedOf 16 (getD numbers 1 0) }
 
 -- the terms from a place on, `count` of them
-unfoldable pub termsFrom : ℕ → ℕ → List ℕ → List Term
-termsFrom zero place bytes = []
-termsFrom (suc count) place bytes = termIn place bytes ∷ termsFrom count (place + layoutWidth termLayout) bytes
+abbrev pub termsFrom : ℕ → ℕ → List ℕ → List Term
+termsFrom count place bytes = entriesFrom termLayout termIn count place bytes
 
 -- the terms of a record's bytes: as many as the count says, behind the header
 abbrev pub termsIn : List ℕ → List Term

@@ -10,7 +10,7 @@ use Rattle.bits.specs.Bits.{bitsOf, replacedAt}
 use Rattle.bits.proofs.Bytes.{length-bits-of}
 use Rattle.histogram.specs.Terms.{paired}
 use Rattle.histogram.proofs.Paired.{onwards, termAt, term-there}
-use Rattle.record.specs.Layout.{layoutWidth}
+use Rattle.record.specs.Layout.{layoutWidth, entriesBits}
 use Rattle.record.specs.Record.{headerLayout, termLayout, termBits, termsBits, termsEnd}
 use Rattle.record.proofs.Layouts.{length-layout}
 use Rattle.record_write.specs.Inner.{TermPut}
@@ -35,7 +35,7 @@ module _ (nodes : List ℕ) (values : List ℤ) (before : List ℕ) where
   pub one-more-written : {now after : List ℕ} {place next i : ℕ} → length nodes ≡ length values → termsEnd (length nodes) ≤ 8 * length before
       → WrittenSoFar nodes values before now place i → i < length nodes → length after ≡ length now
       → TermPut place (getD nodes i 0) (getD values i (pos 0)) next now after → WrittenSoFar nodes values before after next (i + 1)
-  unfolding termsBits
+  unfolding entriesBits
   one-more-written {now} {after} {place} {next} {i} same room so-far more as-long put =
       let first : List ℕ = termBits (termAt nodes values i) in
       let others : List ℕ = termsBits (onwards nodes values (suc i)) in
@@ -56,7 +56,7 @@ module _ (nodes : List ℕ) (values : List ℤ) (before : List ℕ) where
 
   pub all-written : {now : List ℕ} {place i : ℕ} → WrittenSoFar nodes values before now place i → length nodes ≤ i
       → bitsOf now ≡ replacedAt (layoutWidth headerLayout) (termsBits (paired nodes values)) (bitsOf before)
-  unfolding paired termsBits
+  unfolding paired entriesBits
   all-written {now} {place} {i} so-far done =
       let none-left : drop i nodes ≡ [] = drop-of-length-le nodes done in
       let no-further : place + length {A = ℕ} [] ≡ place = omega arith in
