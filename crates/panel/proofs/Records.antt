@@ -18,7 +18,9 @@ use Rattle.histogram.specs.Terms.{paired, valid}
 use Rattle.histogram.specs.Errors.{greatestError}
 use Rattle.histogram.proofs.Powers.{padded-bound}
 use Rattle.record.specs.Record.{recordLength, recordBytes}
-use Rattle.record.specs.Answers.{writingRefusal, RecordWritten}
+use Rattle.record.specs.Answers.{writingRefusal}
+use Rattle.record_write.specs.declared.WriteAnswer.{WriteAnswer}
+use Rattle.record_write.specs.Writing.{RecordWritten}
 use Rattle.claims.specs.Best.{Best}
 use Rattle.build.specs.declared.BuildAnswer.{BuildAnswer}
 use Rattle.build.specs.Building.{buildRefusal, Built, handedOver}
@@ -87,25 +89,25 @@ module _ {profile : List ℤ} {rest band : ℤ} (right : RightProfile profile re
     error-is : answer .error ≡ greatestError profile rest terms
     error-is = rw none-refused at (built .error-is)
 
-    module _ {written bytes : ℕ} {before after : List ℕ} (record-written : RecordWritten (length profile) band rest terms written bytes before after) (number : ℕ) where
-      written-is : written ≡ 6 when ltb (length before) (recordLength (length terms))
+    module _ {written : WriteAnswer} {before after : List ℕ} (record-written : RecordWritten (length profile) band rest terms written before after) (number : ℕ) where
+      written-is : written .refusal ≡ 6 when ltb (length before) (recordLength (length terms))
       written-is = record-written .refusal-is ∙ writing-refusal is-best (length before)
 
       destination : after ≡ laid (granted (6 when ltb (length before) (recordLength (length terms))) (recordBytes (length profile) (natAbs band) rest terms) []) before
       destination = rw (written-is) at (record-written .destination-is)
 
-      pub record-refused : 0 < written → number ≡ packed written 0 0 0 → RecordBuilt profile rest band before after number
+      pub record-refused : 0 < written .refusal → number ≡ packed (written .refusal) 0 0 0 → RecordBuilt profile rest band before after number
       record-refused wrong number-is = record {
         terms = terms;
         best = is-best;
-        result-is = number-is ∙ rw (← written-is) (refused-result written _ _ _ wrong);
+        result-is = number-is ∙ rw (← written-is) (refused-result (written .refusal) _ _ _ wrong);
         destination-is = destination;
       }
 
-      pub record-built : written ≤ 0 → number ≡ packed 0 bytes (answer .count) (answer .error) → RecordBuilt profile rest band before after number
+      pub record-built : written .refusal ≤ 0 → number ≡ packed 0 (written .count) (answer .count) (answer .error) → RecordBuilt profile rest band before after number
       record-built right′ number-is =
-          let none : written ≡ 0 = omega arith in
-          let bytes-are : bytes ≡ recordLength (length terms) = rw none at (record-written .count-is) in
+          let none : written .refusal ≡ 0 = omega arith in
+          let bytes-are : written .count ≡ recordLength (length terms) = rw none at (record-written .count-is) in
           record {
             terms = terms;
             best = is-best;
@@ -114,10 +116,10 @@ module _ {profile : List ℤ} {rest band : ℤ} (right : RightProfile profile re
           }
 
       -- the record is no longer than that of 512 terms
-      pub bytes-few : answer .count ≤ 512 → written ≤ 0 → bytes ≤ 3332
+      pub bytes-few : answer .count ≤ 512 → written .refusal ≤ 0 → written .count ≤ 3332
       bytes-few few right′ =
-          let none : written ≡ 0 = omega arith in
-          let bytes-are : bytes ≡ recordLength (length terms) = rw none at (record-written .count-is) in
+          let none : written .refusal ≡ 0 = omega arith in
+          let bytes-are : written .count ≡ recordLength (length terms) = rw none at (record-written .count-is) in
           omega (arith, built .count-is)
 
 -- ---- text to record

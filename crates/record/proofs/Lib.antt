@@ -1,3 +1,7 @@
-pub mod Pieces
+pub mod Layouts
+pub mod Entries
+pub mod Bounds
+pub mod Fill
 pub mod RoundTrips
+pub mod Table
 pub mod Tests

@@ -1,23 +1,22 @@
 -- The two round trips of demand 2, for every header and every list of terms, and for every byte string.
--- Both rest on one reading of a record's bits field by field: `Pieces`.
-use mathlib.Core.Path.{_≡_, refl, sym, ap, ap₂, _∙_}
+-- Both rest on those of any layout and of any list of entries, `Layouts` and `Entries`: a header is a layout at the front, and the terms are entries of another behind it.
+use mathlib.Core.Path.{_≡_, sym, ap, ap₂, _∙_}
 use mathlib.Core.Bool.{Bool, true, false, not, _&&_, true≢false}
 use mathlib.Core.List.{List, [], _∷_, _++_, append-assoc}
-use Prim.Native.Nat.{ℕ, zero, suc, _+_, _*_, _-_, _^_, _≤_, _<_}
+use Prim.Native.Nat.{ℕ, _+_, _*_, _-_, _^_, _≤_, _<_}
 use native.Mathlib.Omega.{arith}
 use lib.Dec.{leb, ltb, eqb}
 use lib.IntN.{ℤ, pos, negsuc, natAbs}
-use lib.ListN.{length, take, drop, replicate, length-append, length-drop}
+use lib.ListN.{length, getD, drop, replicate, length-append, length-drop}
 use lib.Seq.{drop-at, drop-drop}
 use borrow.Author.Tests.{le-leb, le-ltb, eq-eqb, eqb-true, leb-true, ltb-false, not-false}
 use Rattle.limits.specs.Limits.{beyond, outsideBand, outsideSlots}
 use Rattle.limits.specs.Answers.{_when_, _then_}
 use Rattle.limits.proofs.Refusals.{none-of-two, passed, passed-last, slots-within}
-use Rattle.bits.specs.Bits.{bits, numberOf, bitsOf, fieldAt}
-use Rattle.bits.specs.Signed.{complement, signedOf}
+use Rattle.bits.specs.Bits.{numberOf, bitsOf}
+use Rattle.bits.specs.Signed.{signedOf}
 use Rattle.bits.specs.Inner.{Below, SignedBits}
-use Rattle.bits.proofs.Numbers.{append-below, drop-below, nil-below}
-use Rattle.bits.proofs.Fields.{length-bits, bits-below}
+use Rattle.bits.proofs.Numbers.{append-below, drop-below}
 use Rattle.bits.proofs.Bytes.{length-bits-of, bits-of-below, bytes-from-bits}
 use Rattle.bits.proofs.Packing.{length-packed, packed-below, bits-of-packed}
 use Rattle.bits.proofs.Complement.{complement-reads-back, complement-fits}
@@ -26,86 +25,46 @@ use Rattle.histogram.specs.Tree.{padded}
 use Rattle.histogram.specs.Terms.{valid}
 use Rattle.histogram.proofs.Ascent.{ValidFrom, first-above, first-below, first-within, rest-valid}
 use Rattle.histogram.proofs.Powers.{height-reaches, padded-bound}
-use Rattle.record.specs.Record.{headerBits, termBits, termsBits, recordBits, recordLength, recordBytes, versionIn, slotsIn, bandIn, restIn, countIn, firstTerm, termsFrom, termsIn, fillIn, wellFormed}
+use Rattle.record.specs.Layout.{layoutWidth, layoutNumbers, held}
+use Rattle.record.specs.Record.{Header, headerLayout, termLayout, headerBits, termBits, termsBits, recordBits, termsEnd, recordLength, recordBytes, headerNumbers, versionIn, slotsIn, bandIn, restIn, countIn, termIn, termsFrom, termsIn, fillIn, wellFormed}
 use Rattle.record.specs.Answers.{packingRefusal, headerRefusal, recordRefusal}
 use Rattle.record.proofs.Tests.{both-left, both-right}
-use Rattle.record.proofs.Pieces.{field-read, next-field, field-in-front, signed-in-front, zeros, number-of-zeros}
+use Rattle.record.proofs.Fill.{zeros, number-of-zeros}
+use Rattle.record.proofs.Layouts.{no-row, row, signed-row, length-layout, layout-below, behind-layout, layout-reads-back, layout-is-written}
+use Rattle.record.proofs.Entries.{length-entries, entries-below, length-from, ReadsBack, AllReadBack, none-left, and-more, entries-read-back, entries-are-written}
 
 -- ---- how long the pieces are, and that they are bits
 
-pub length-header : (n band : ℕ) (rest : ℤ) (count : ℕ) → length (headerBits n band rest count) ≡ 55
-length-header n band rest count = simp (length-append, length-bits)
+module _ (n band : ℕ) (rest : ℤ) (terms : List Term) where
+  pub length-header : length (headerBits n band rest (length terms)) ≡ layoutWidth headerLayout
+  length-header = length-layout (record { slots = n; band = band; rest = rest; count = length terms }) headerLayout
 
-length-terms : (terms : List Term) → length (termsBits terms) ≡ 26 * length terms
-unfolding termsBits
-length-terms [] = refl
-length-terms (term ∷ terms) = simp (length-append, length-bits) (omega (arith, length-terms terms))
+  pub record-below : Below 2 (recordBits n band rest terms)
+  record-below = append-below _ _ (layout-below (record { slots = n; band = band; rest = rest; count = length terms }) headerLayout) (entries-below termLayout terms)
 
-terms-below : (terms : List Term) → Below 2 (termsBits terms)
-unfolding termsBits
-terms-below [] = nil-below (omega arith)
-terms-below (term ∷ terms) = append-below _ _ (append-below _ _ (bits-below 10 _) (bits-below 16 _)) (terms-below terms)
+  pub length-record : length (recordBits n band rest terms) ≡ termsEnd (length terms)
+  length-record = length-append (headerBits n band rest (length terms)) (termsBits terms) ∙ ap₂ (λ (a b : ℕ). a + b) length-header (length-entries termLayout terms)
 
-pub record-below : (n band : ℕ) (rest : ℤ) (terms : List Term) → Below 2 (recordBits n band rest terms)
-record-below n band rest terms =
-    append-below _ _
-    (append-below _ _ (bits-below 4 _) (append-below _ _ (bits-below 9 _) (append-below _ _ (bits-below 16 _) (append-below _ _ (bits-below 16 _) (bits-below 10 _)))))
-    (terms-below terms)
-
-pub length-record : (n band : ℕ) (rest : ℤ) (terms : List Term) → length (recordBits n band rest terms) ≡ 55 + 26 * length terms
-length-record n band rest terms = length-append (headerBits n band rest (length terms)) (termsBits terms) ∙ ap₂ (λ (a b : ℕ). a + b) (length-header n band rest (length terms)) (length-terms terms)
-
--- the bits of a record's bytes: its fields, then zeros
-pub written-bits : (n band : ℕ) (rest : ℤ) (terms : List Term)
-    → bitsOf (recordBytes n band rest terms) ≡ recordBits n band rest terms ++ replicate (recordLength (length terms) * 8 - length (recordBits n band rest terms)) 0
-written-bits n band rest terms =
-    bits-of-packed (recordLength (length terms)) (recordBits n band rest terms) (record-below n band rest terms)
-    (omega (arith, length-record n band rest terms))
+  -- the bits of a record's bytes: its fields, then zeros
+  pub written-bits : bitsOf (recordBytes n band rest terms) ≡ recordBits n band rest terms ++ replicate (recordLength (length terms) * 8 - length (recordBits n band rest terms)) 0
+  written-bits = bits-of-packed (recordLength (length terms)) (recordBits n band rest terms) record-below (omega (arith, length-record))
 
 -- ---- an accepted record is byte for byte what writing its header and terms produces
 
-pub length-from : (count : ℕ) (field : List ℕ) → length (termsFrom count field) ≡ count
-unfolding termsFrom
-length-from zero field = refl
-length-from (suc count) field = ap suc (length-from count (drop 26 field))
-
--- terms that were read from bits are written as those bits
-terms-written : (count : ℕ) (field : List ℕ) → Below 2 field → 26 * count ≤ length field → termsBits (termsFrom count field) ++ drop (26 * count) field ≡ field
-unfolding termsBits termsFrom
-terms-written zero field all-bits inside = refl
-terms-written (suc count) field all-bits inside =
-    let further : 26 * suc count ≡ 26 + 26 * count = omega arith in
-    let rest-long : 26 * count ≤ length (drop 26 field) = simp length-drop (omega arith) in
-    let value-long : 16 ≤ length (drop 10 field) = simp length-drop (omega arith) in
-    let others : termsBits (termsFrom count (drop 26 field)) ++ drop (26 * suc count) field ≡ drop 26 field =
-    ap (λ (l : List ℕ). termsBits (termsFrom count (drop 26 field)) ++ l) (ap (λ (k : ℕ). drop k field) further ∙ sym (drop-drop (26 * count) 26 field))
-    ∙ terms-written count (drop 26 field) (drop-below 26 field all-bits) rest-long in
-    let value : bits 16 (complement 16 (signedOf 16 (numberOf (take 16 (drop 10 field))))) ++ drop 26 field ≡ drop 10 field =
-    ap (λ (l : List ℕ). bits 16 (complement 16 (signedOf 16 (numberOf (take 16 (drop 10 field))))) ++ l) (sym (drop-drop 16 10 field))
-    ∙ signed-in-front (drop 10 field) (drop-below 10 field all-bits) 16 value-long in
-    simp append-assoc (rw (others, value) (field-in-front field all-bits 10 (omega arith)))
+-- a term's numbers are those that the term holds
+term-exact : (place : ℕ) (bytes : List ℕ) → layoutNumbers termLayout place bytes ≡ held termLayout (termIn place bytes)
+term-exact place bytes = rw signed-row
 
 module _ (bytes : List ℕ) where
-  -- the fields of enough bytes, one after the other
-  fields-in-front : 56 ≤ length (bitsOf bytes) → versionIn bytes ≡ 1 → 55 + 26 * countIn bytes ≤ length (bitsOf bytes)
-      → recordBits (slotsIn bytes) (bandIn bytes) (restIn bytes) (termsIn bytes) ++ drop (55 + 26 * countIn bytes) (bitsOf bytes) ≡ bitsOf bytes
-  fields-in-front enough version terms-inside =
-      let all-bits = bits-of-below bytes in
-      let field : (place width : ℕ) → place + width ≤ 56 → bits width (fieldAt bytes place width) ++ drop (place + width) (bitsOf bytes) ≡ drop place (bitsOf bytes) =
-      λ place width inside.
-      ap (λ (l : List ℕ). bits width (fieldAt bytes place width) ++ l) (sym (drop-drop width place (bitsOf bytes)))
-      ∙ field-in-front (drop place (bitsOf bytes)) (drop-below place (bitsOf bytes) all-bits) width (simp length-drop (omega arith)) in
-      let rest-field : bits 16 (complement 16 (restIn bytes)) ++ drop 45 (bitsOf bytes) ≡ drop 29 (bitsOf bytes) =
-      ap (λ (l : List ℕ). bits 16 (complement 16 (restIn bytes)) ++ l) (sym (drop-drop 16 29 (bitsOf bytes)))
-      ∙ signed-in-front (drop 29 (bitsOf bytes)) (drop-below 29 (bitsOf bytes) all-bits) 16 (simp length-drop (omega arith)) in
-      let count-is : length (termsIn bytes) ≡ countIn bytes = length-from (countIn bytes) (drop 55 (bitsOf bytes)) in
-      let slots-is : slotsIn bytes - 1 ≡ fieldAt bytes 4 9 = omega arith in
-      let terms-long : 26 * countIn bytes ≤ length (drop 55 (bitsOf bytes)) = simp length-drop (omega arith) in
-      let terms-field : termsBits (termsIn bytes) ++ drop (55 + 26 * countIn bytes) (bitsOf bytes) ≡ drop 55 (bitsOf bytes) =
-      ap (λ (l : List ℕ). termsBits (termsIn bytes) ++ l) (sym (drop-drop (26 * countIn bytes) 55 (bitsOf bytes)))
-      ∙ terms-written (countIn bytes) (drop 55 (bitsOf bytes)) (drop-below 55 (bitsOf bytes) all-bits) terms-long in
-      let version-field : bits 4 1 ++ drop 4 (bitsOf bytes) ≡ bitsOf bytes = ap (λ (v : ℕ). bits 4 v ++ drop 4 (bitsOf bytes)) (sym version) ∙ field 0 4 (omega arith) in
-      simp append-assoc (rw (count-is, slots-is, terms-field, field 45 10 (omega arith), rest-field, field 13 16 (omega arith), field 4 9 (omega arith)) version-field)
+  -- the header and the terms of enough bytes, one after the other
+  fields-in-front : versionIn bytes ≡ 1 → termsEnd (countIn bytes) ≤ 8 * length bytes
+      → recordBits (slotsIn bytes) (bandIn bytes) (restIn bytes) (termsIn bytes) ++ drop (termsEnd (countIn bytes)) (bitsOf bytes) ≡ bitsOf bytes
+  fields-in-front version inside =
+      let header : Header = record { slots = slotsIn bytes; band = bandIn bytes; rest = restIn bytes; count = countIn bytes } in
+      let length-is : slotsIn bytes - 1 ≡ getD (headerNumbers bytes) 1 0 = omega arith in
+      let numbers-are : headerNumbers bytes ≡ held headerLayout header = rw (version, length-is, signed-row) in
+      let count-is : length (termsIn bytes) ≡ countIn bytes = length-from termLayout termIn (countIn bytes) (layoutWidth headerLayout) bytes in
+      rw (count-is, append-assoc (headerBits (slotsIn bytes) (bandIn bytes) (restIn bytes) (countIn bytes)), entries-are-written termLayout termIn term-exact (countIn bytes) (layoutWidth headerLayout) bytes inside) (layout-is-written header headerLayout 0 bytes (omega arith) numbers-are)
 
   -- what a well-formed record has
   pub well-formed-parts : wellFormed bytes ≡ true → (7 ≤ length bytes) × (versionIn bytes ≡ 1) × (length bytes ≡ recordLength (countIn bytes)) × (fillIn bytes ≡ 0)
@@ -125,19 +84,17 @@ module _ (bytes : List ℕ) where
   pub well-formed-is-written : Below 256 bytes → wellFormed bytes ≡ true → bytes ≡ recordBytes (slotsIn bytes) (bandIn bytes) (restIn bytes) (termsIn bytes)
   well-formed-is-written all-bytes right =
       let parts = well-formed-parts right in
-      let count-is : length (termsIn bytes) ≡ countIn bytes = length-from (countIn bytes) (drop 55 (bitsOf bytes)) in
-      let long : length (bitsOf bytes) ≡ 8 * length bytes = length-bits-of bytes in
+      let end : ℕ = termsEnd (countIn bytes) in
+      let count-is : length (termsIn bytes) ≡ countIn bytes = length-from termLayout termIn (countIn bytes) (layoutWidth headerLayout) bytes in
       let written : List ℕ = recordBits (slotsIn bytes) (bandIn bytes) (restIn bytes) (termsIn bytes) in
-      let written-long : length written ≡ 55 + 26 * countIn bytes = length-record (slotsIn bytes) (bandIn bytes) (restIn bytes) (termsIn bytes) ∙ omega arith in
-      let fill-long : length (drop (55 + 26 * countIn bytes) (bitsOf bytes)) ≡ recordLength (length (termsIn bytes)) * 8 - length written =
-      simp length-drop (omega (arith, parts .2)) in
-      let fill-is : drop (55 + 26 * countIn bytes) (bitsOf bytes) ≡ replicate (recordLength (length (termsIn bytes)) * 8 - length written) 0 =
-      zeros (drop (55 + 26 * countIn bytes) (bitsOf bytes)) (drop-below (55 + 26 * countIn bytes) (bitsOf bytes) (bits-of-below bytes)) (parts .3)
-      ∙ ap (λ (k : ℕ). replicate k 0) fill-long in
+      let written-long : length written ≡ end = length-record (slotsIn bytes) (bandIn bytes) (restIn bytes) (termsIn bytes) ∙ ap termsEnd count-is in
+      let fill-long : length (drop end (bitsOf bytes)) ≡ recordLength (length (termsIn bytes)) * 8 - length written = simp length-drop (omega (arith, parts .2, length-bits-of bytes)) in
+      let fill-is : drop end (bitsOf bytes) ≡ replicate (recordLength (length (termsIn bytes)) * 8 - length written) 0 =
+      zeros (drop end (bitsOf bytes)) (drop-below end (bitsOf bytes) (bits-of-below bytes)) (parts .3) ∙ ap (λ (k : ℕ). replicate k 0) fill-long in
       bytes-from-bits bytes (recordBytes (slotsIn bytes) (bandIn bytes) (restIn bytes) (termsIn bytes)) all-bytes
       (packed-below (recordLength (length (termsIn bytes))) written (record-below (slotsIn bytes) (bandIn bytes) (restIn bytes) (termsIn bytes)))
       (sym (written-bits (slotsIn bytes) (bandIn bytes) (restIn bytes) (termsIn bytes) ∙ ap (λ (l : List ℕ). written ++ l) (sym fill-is)
-      ∙ fields-in-front (omega (arith, parts .0)) (parts .1) (omega (arith, parts .2))))
+      ∙ fields-in-front (parts .1) (omega (arith, parts .2))))
 
   -- "a record that is accepted is byte for byte what writing its terms and header produces"
   pub accepted-is-written : Below 256 bytes → recordRefusal bytes ≡ 0 → bytes ≡ recordBytes (slotsIn bytes) (bandIn bytes) (restIn bytes) (termsIn bytes)
@@ -147,29 +104,17 @@ module _ (bytes : List ℕ) where
 
 -- ---- writing and then reading gives the same header and terms
 
--- a term that fits its fields
-record TermFits (term : Term) : Type 0 where
-  node-fits : term .node < 2 ^ 10
-  value-fits : SignedBits 16 (term .value)
-
-data AllFit : List Term → Type 0 where
-  none-left : AllFit []
-  and-more : {term : Term} {terms : List Term} → TermFits term → AllFit terms → AllFit (term ∷ terms)
-
-terms-read : (terms : List Term) (back : List ℕ) → AllFit terms → termsFrom (length terms) (termsBits terms ++ back) ≡ terms
-unfolding termsFrom termsBits
-terms-read [] back none-left = refl
-terms-read (term ∷ terms) back (and-more fits others) =
-    let field : List ℕ = (termBits term ++ termsBits terms) ++ back in
-    let node-stands : drop 0 field ≡ bits 10 (term .node) ++ (bits 16 (complement 16 (term .value)) ++ (termsBits terms ++ back)) = simp append-assoc in
-    let value-stands : drop 10 field ≡ bits 16 (complement 16 (term .value)) ++ (termsBits terms ++ back) = next-field field 0 10 (term .node) _ node-stands in
-    let others-stand : drop 26 field ≡ termsBits terms ++ back = next-field field 10 16 (complement 16 (term .value)) _ value-stands in
-    let node-read : numberOf (take 10 field) ≡ term .node = field-read field 0 10 (term .node) _ node-stands (fits .node-fits) in
-    let value-read : numberOf (take 16 (drop 10 field)) ≡ complement 16 (term .value) =
-    field-read field 10 16 (complement 16 (term .value)) _ value-stands (complement-fits 16 (term .value) (fits .value-fits)) in
-    let first-is : firstTerm field ≡ term =
-    (λ i. record { node = node-read i; value = (ap (signedOf 16) value-read ∙ complement-reads-back 16 (term .value) (fits .value-fits)) i }) in
-    ap₂ (λ (t : Term) (ts : List Term). t ∷ ts) first-is (ap (termsFrom (length terms)) others-stand ∙ terms-read terms back others)
+-- a term that fits its fields reads back
+term-reads-back : (term : Term) → term .node < 2 ^ 10 → SignedBits 16 (term .value) → ReadsBack termLayout termIn term
+term-reads-back term node-fits value-fits = record { reads = there }
+  where
+    there : (place : ℕ) (bytes back : List ℕ) → drop place (bitsOf bytes) ≡ termBits term ++ back → termIn place bytes ≡ term
+    there place bytes back stands =
+        let numbers : layoutNumbers termLayout place bytes ≡ held termLayout term =
+        layout-reads-back term termLayout place bytes back (row node-fits (row (complement-fits 16 (term .value) value-fits) no-row)) stands in
+        let value-is : signedOf 16 (getD (layoutNumbers termLayout place bytes) 1 0) ≡ term .value =
+        ap (λ (l : List ℕ). signedOf 16 (getD l 1 0)) numbers ∙ complement-reads-back 16 (term .value) value-fits in
+        λ i. record { node = getD (numbers i) 0 0; value = value-is i }
 
 -- what bytes read as is a header and terms
 pub record ReadsAs (bytes : List ℕ) (n band : ℕ) (rest : ℤ) (terms : List Term) : Type 0 where
@@ -181,38 +126,34 @@ pub record ReadsAs (bytes : List ℕ) (n band : ℕ) (rest : ℤ) (terms : List 
   pub terms-same : termsIn bytes ≡ terms
 
 module _ (n band : ℕ) (rest : ℤ) (terms : List Term) (slots-fit : n - 1 < 2 ^ 9) (some-slot : 1 ≤ n) (band-fits : band < 2 ^ 16) (rest-fits : SignedBits 16 rest)
-    (few : length terms < 2 ^ 10) (terms-fit : AllFit terms) where
+    (few : length terms < 2 ^ 10) (terms-fit : AllReadBack termLayout termIn terms) where
   fields-read-back : ReadsAs (recordBytes n band rest terms) n band rest terms
   fields-read-back =
       let bytes : List ℕ = recordBytes n band rest terms in
+      let header : Header = record { slots = n; band = band; rest = rest; count = length terms } in
       let fill : List ℕ = replicate (recordLength (length terms) * 8 - length (recordBits n band rest terms)) 0 in
-      let version-stands : drop 0 (bitsOf bytes) ≡ bits 4 1 ++ (bits 9 (n - 1) ++ (bits 16 band ++ (bits 16 (complement 16 rest) ++ (bits 10 (length terms) ++ (termsBits terms ++ fill))))) =
-      written-bits n band rest terms ∙ simp append-assoc in
-      let length-stands : drop 4 (bitsOf bytes) ≡ bits 9 (n - 1) ++ (bits 16 band ++ (bits 16 (complement 16 rest) ++ (bits 10 (length terms) ++ (termsBits terms ++ fill)))) =
-      next-field (bitsOf bytes) 0 4 1 _ version-stands in
-      let band-stands : drop 13 (bitsOf bytes) ≡ bits 16 band ++ (bits 16 (complement 16 rest) ++ (bits 10 (length terms) ++ (termsBits terms ++ fill))) =
-      next-field (bitsOf bytes) 4 9 (n - 1) _ length-stands in
-      let rest-stands : drop 29 (bitsOf bytes) ≡ bits 16 (complement 16 rest) ++ (bits 10 (length terms) ++ (termsBits terms ++ fill)) = next-field (bitsOf bytes) 13 16 band _ band-stands in
-      let count-stands : drop 45 (bitsOf bytes) ≡ bits 10 (length terms) ++ (termsBits terms ++ fill) = next-field (bitsOf bytes) 29 16 (complement 16 rest) _ rest-stands in
-      let terms-stand : drop 55 (bitsOf bytes) ≡ termsBits terms ++ fill = next-field (bitsOf bytes) 45 10 (length terms) _ count-stands in
-      let version-is : versionIn bytes ≡ 1 = field-read (bitsOf bytes) 0 4 1 _ version-stands (omega arith) in
-      let slots-are : fieldAt bytes 4 9 ≡ n - 1 = field-read (bitsOf bytes) 4 9 (n - 1) _ length-stands slots-fit in
-      let count-is : countIn bytes ≡ length terms = field-read (bitsOf bytes) 45 10 (length terms) _ count-stands few in
-      let fill-stands : drop (55 + 26 * countIn bytes) (bitsOf bytes) ≡ fill =
-      ap (λ (k : ℕ). drop (55 + 26 * k) (bitsOf bytes)) count-is
-      ∙ sym (drop-drop (26 * length terms) 55 (bitsOf bytes))
-      ∙ rw terms-stand (drop-at (termsBits terms) fill (26 * length terms) (length-terms terms)) in
+      let header-stands : bitsOf bytes ≡ headerBits n band rest (length terms) ++ (termsBits terms ++ fill) =
+      written-bits n band rest terms ∙ append-assoc (headerBits n band rest (length terms)) (termsBits terms) fill in
+      let numbers : headerNumbers bytes ≡ held headerLayout header =
+      layout-reads-back header headerLayout 0 bytes _ (row (omega arith) (row slots-fit (row band-fits (row (complement-fits 16 rest rest-fits) (row few no-row))))) header-stands in
+      let in-row : (k : ℕ) → getD (headerNumbers bytes) k 0 ≡ getD (held headerLayout header) k 0 = λ k. ap (λ (l : List ℕ). getD l k 0) numbers in
+      let terms-stand : drop (layoutWidth headerLayout) (bitsOf bytes) ≡ termsBits terms ++ fill = behind-layout header headerLayout 0 (bitsOf bytes) _ header-stands in
+      let count-is : countIn bytes ≡ length terms = in-row 4 in
+      let fill-stands : drop (termsEnd (countIn bytes)) (bitsOf bytes) ≡ fill =
+      ap (λ (k : ℕ). drop (termsEnd k) (bitsOf bytes)) count-is
+      ∙ sym (drop-drop (layoutWidth termLayout * length terms) (layoutWidth headerLayout) (bitsOf bytes))
+      ∙ rw terms-stand (drop-at (termsBits terms) fill (layoutWidth termLayout * length terms) (length-entries termLayout terms)) in
       let fill-is : fillIn bytes ≡ 0 = ap numberOf fill-stands ∙ number-of-zeros (recordLength (length terms) * 8 - length (recordBits n band rest terms)) in
       let long : length bytes ≡ recordLength (length terms) = length-packed (recordLength (length terms)) (recordBits n band rest terms) in
       let long-enough : leb 7 (length bytes) ≡ true = le-leb 7 (length bytes) (omega arith) in
       let byte-count : eqb (length bytes) (recordLength (countIn bytes)) ≡ true = eq-eqb (length bytes) (recordLength (countIn bytes)) (long ∙ ap recordLength (sym count-is)) in
       record {
-        well-formed = rw (long-enough, eq-eqb (versionIn bytes) 1 version-is, byte-count, eq-eqb (fillIn bytes) 0 fill-is);
-        slots-same = omega (arith, slots-are);
-        band-same = field-read (bitsOf bytes) 13 16 band _ band-stands band-fits;
-        rest-same = ap (signedOf 16) (field-read (bitsOf bytes) 29 16 (complement 16 rest) _ rest-stands (complement-fits 16 rest rest-fits)) ∙ complement-reads-back 16 rest rest-fits;
+        well-formed = rw (long-enough, eq-eqb (versionIn bytes) 1 (in-row 0), byte-count, eq-eqb (fillIn bytes) 0 fill-is);
+        slots-same = omega (arith, in-row 1);
+        band-same = in-row 2;
+        rest-same = ap (signedOf 16) (in-row 3) ∙ complement-reads-back 16 rest rest-fits;
         count-same = count-is;
-        terms-same = ap₂ (λ (k : ℕ) (l : List ℕ). termsFrom k l) count-is terms-stand ∙ terms-read terms fill terms-fit;
+        terms-same = ap (λ (k : ℕ). termsFrom k (layoutWidth headerLayout) bytes) count-is ∙ entries-read-back termLayout termIn terms (layoutWidth headerLayout) bytes fill terms-fit terms-stand;
       }
 
 within-signed : (value : ℤ) → natAbs value ≤ 20000 → SignedBits 16 value
@@ -220,11 +161,11 @@ within-signed (pos number) small = record { some = omega arith; small = omega ar
 within-signed (negsuc below) small = record { some = omega arith; small = omega arith }
 
 -- a valid list of terms fits its fields, and is short enough for its count
-valid-fits : {last end : ℕ} (terms : List Term) → end ≤ 2 ^ 10 → ValidFrom last end terms → AllFit terms
+valid-fits : {last end : ℕ} (terms : List Term) → end ≤ 2 ^ 10 → ValidFrom last end terms → AllReadBack termLayout termIn terms
 valid-fits [] small proper = none-left
 valid-fits (term ∷ terms) small proper =
     let node-fits : term .node < 2 ^ 10 = omega (arith, first-below proper) in
-    and-more (record { node-fits = node-fits; value-fits = within-signed (term .value) (first-within proper) }) (valid-fits terms small (rest-valid proper))
+    and-more (term-reads-back term node-fits (within-signed (term .value) (first-within proper))) (valid-fits terms small (rest-valid proper))
 
 pub valid-few : {last end : ℕ} (terms : List Term) → last < end → ValidFrom last end terms → last + length terms < end
 valid-few [] below proper = omega arith

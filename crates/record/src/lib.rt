@@ -1,8 +1,8 @@
 // The record's layout: how long it is and where its fields stand. Its definition is in specs/Record.antt.
 use bits::BitPlace;
 ghost use mathlib.Core.Path.{_≡_};
-ghost use Prim.Native.Nat.{_+_, _*_, _≤_};
-ghost use Rattle.record.specs.Record.{recordLength};
+ghost use Prim.Native.Nat.{_≤_};
+ghost use Rattle.record.specs.Record.{recordLength, termsEnd};
 ghost use Rattle.record.specs.Inner.{PlacesAre};
 
 // How many bytes a record of that many terms has.
@@ -10,7 +10,7 @@ pub fn record_length(count: usize) -> usize
     requires { ⌜ count ≤ 1023 ⌝ }
     ensures { λ r. ⌜ r ≡ recordLength count ⌝ }
 {
-    (55 + 26 * count + 7) / 8
+    (after_terms(count).at + 7) / 8
 }
 
 // The places of the fields after the version, in their order, and of the first term.
@@ -23,7 +23,7 @@ pub struct FieldPlaces {
 }
 
 pub fn places() -> FieldPlaces
-    ensures { λ r. ⌜ PlacesAre (r .length .at) (r .band .at) (r .rest .at) (r .count .at) (r .terms .at) ⌝ }
+    ensures { λ r. ⌜ PlacesAre r ⌝ }
 {
     let length = BitPlace::start().after(BitPlace::VERSION);
     let band = length.after(BitPlace::LENGTH);
@@ -42,7 +42,7 @@ pub fn places() -> FieldPlaces
 // The place after the last of that many terms.
 pub fn after_terms(count: usize) -> BitPlace
     requires { ⌜ count ≤ 1023 ⌝ }
-    ensures { λ r. ⌜ r .at ≡ 55 + 26 * count ⌝ }
+    ensures { λ r. ⌜ r .at ≡ termsEnd count ⌝ }
 {
     places().terms.after(BitPlace::TERM * count)
 }

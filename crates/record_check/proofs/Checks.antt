@@ -12,6 +12,7 @@ use Rattle.limits.proofs.Refusals.{first-counts, slots-within}
 use Rattle.histogram.specs.Terms.{paired}
 use Rattle.record.specs.Record.{slotsIn, bandIn, restIn, termsIn}
 use Rattle.record.specs.Answers.{recordRefusal}
+use Rattle.record_read.specs.declared.HeaderAnswer.{HeaderAnswer}
 use Rattle.record_read.specs.Inner.{RoomRead}
 use Rattle.record_read.proofs.Accepted as Accepted
 use Rattle.record_check.specs.Checking.{checkRefusal, Verdict, Checked}
@@ -46,31 +47,31 @@ module _ (profile : List ℤ) (bytes : List ℕ) where
         }
 
 -- what judging asks, of a record in the room
-module _ (profile : List ℤ) (bytes : List ℕ) (refusal slots : ℕ) (band rest : ℤ) (count : ℕ) (nodes nodes′ : List ℕ) (values values′ : List ℤ)
-    (read : RoomRead bytes refusal slots band rest count nodes nodes′ values values′) (right : refusal ≤ 0) where
+module _ (profile : List ℤ) {bytes : List ℕ} {answer : HeaderAnswer} {nodes nodes′ : List ℕ} {values values′ : List ℤ}
+    (read : RoomRead bytes answer nodes nodes′ values values′) (right : answer .refusal ≤ 0) where
   pub record-right : recordRefusal bytes ≡ 0
-  record-right = Accepted.record-right bytes refusal slots band rest count nodes nodes′ values values′ read right
+  record-right = Accepted.record-right read right
 
-  pub rest-is : rest ≡ restIn bytes
-  rest-is = Accepted.rest-is bytes refusal slots band rest count nodes nodes′ values values′ read right
+  pub rest-is : answer .rest ≡ restIn bytes
+  rest-is = Accepted.rest-is read right
 
-  pub band-is : band ≡ pos (bandIn bytes)
-  band-is = Accepted.band-is bytes refusal slots band rest count nodes nodes′ values values′ read right
+  pub band-is : answer .band ≡ pos (bandIn bytes)
+  band-is = Accepted.band-is read right
 
-  pub slots-are : slots ≡ slotsIn bytes
-  slots-are = Accepted.slots-are bytes refusal slots band rest count nodes nodes′ values values′ read right
+  pub slots-are : answer .slots ≡ slotsIn bytes
+  slots-are = Accepted.slots-are read right
 
-  pub terms-are : paired (take count nodes′) (take count values′) ≡ termsIn bytes
-  terms-are = room-terms bytes refusal slots band rest count nodes nodes′ values values′ read 0 right
+  pub terms-are : paired (take (answer .count) nodes′) (take (answer .count) values′) ≡ termsIn bytes
+  terms-are = room-terms read 0 right
 
-  pub rest-within : natAbs rest ≤ 20000
+  pub rest-within : natAbs (answer .rest) ≤ 20000
   rest-within = rw rest-is (ltb-false 20000 (natAbs (restIn bytes)) (sound bytes record-right .rest-near))
 
-  pub judgeable : outsideSlots (length profile) ≡ false → anyBeyond profile ≡ false → slots ≡ length profile → Judgeable profile (bandIn bytes) rest (take count nodes′) (take count values′)
+  pub judgeable : outsideSlots (length profile) ≡ false → anyBeyond profile ≡ false → answer .slots ≡ length profile → Judgeable profile (bandIn bytes) (answer .rest) (take (answer .count) nodes′) (take (answer .count) values′)
   judgeable inside near same = record {
     same-length =
-        Accepted.nodes-counted bytes refusal slots band rest count nodes nodes′ values values′ read right
-        ∙ sym (Accepted.values-counted bytes refusal slots band rest count nodes nodes′ values values′ read right);
+        Accepted.nodes-counted read right
+        ∙ sym (Accepted.values-counted read right);
     some-slot = slots-within (length profile) inside .some-slot;
     few-slots = slots-within (length profile) inside .few-slots;
     rest-within = rest-within;

@@ -5,13 +5,14 @@ use mathlib.Core.List.{List}
 use Prim.Native.Nat.{ℕ, zero, suc, _≤_, _<_}
 use native.Mathlib.Omega.{arith}
 use lib.Dec.{eqb}
-use lib.IntN.{ℤ, pos}
+use lib.IntN.{pos}
 use lib.ListN.{length}
 use borrow.Author.Tests.{le-leb, lt-leb, eq-eqb, ne-eqb}
 use Rattle.limits.specs.Limits.{beyond, outsideBand}
 use Rattle.record.specs.Record.{recordLength, versionIn, slotsIn, bandIn, restIn, countIn, fillIn, wellFormed}
-use Rattle.record.specs.Answers.{HeaderOf}
-use Rattle.record_read.specs.Inner.{FrameRead, FieldsRead, HeaderRead}
+use Rattle.record_read.specs.declared.HeaderAnswer.{HeaderAnswer}
+use Rattle.record_read.specs.Reading.{HeaderOf}
+use Rattle.record_read.specs.Inner.{FrameRead, FieldsRead, HeaderRead, noHeader}
 
 module _ (bytes : List ℕ) where
   not-right : wellFormed bytes ≡ false → FrameRead bytes false 0
@@ -38,28 +39,27 @@ module _ (bytes : List ℕ) where
     }
 
   module _ (right : wellFormed bytes ≡ true) where
-    pub header-of-fields : (refusal slots : ℕ) (band rest : ℤ) (count : ℕ) → FieldsRead bytes (countIn bytes) refusal slots band rest count
-        → HeaderRead bytes refusal slots band rest count
-    header-of-fields refusal slots band rest count fields = record {
+    pub header-of-fields : {answer : HeaderAnswer} → FieldsRead bytes (countIn bytes) answer → HeaderRead bytes answer
+    header-of-fields fields = record {
       refusal-is = rw right (fields .refusal-is);
       header = record { slots-is = fields .slots-is; band-is = fields .band-is; rest-is = fields .rest-is; count-is = fields .count-is };
     }
 
-  pub no-header : (refusal : ℕ) → 0 < refusal → HeaderOf bytes refusal 0 (pos 0) (pos 0) 0
+  pub no-header : (refusal : ℕ) → 0 < refusal → HeaderOf bytes (noHeader refusal)
   no-header zero wrong = absurd (omega arith)
   no-header (suc refusal) wrong = record { slots-is = refl; band-is = refl; rest-is = refl; count-is = refl }
 
-  pub malformed : wellFormed bytes ≡ false → HeaderRead bytes 7 0 (pos 0) (pos 0) 0
+  pub malformed : wellFormed bytes ≡ false → HeaderRead bytes (noHeader 7)
   malformed wrong = record { refusal-is = rw wrong; header = no-header 7 (omega arith) }
 
   -- the header's fields, by the two tests of their numbers
   module _ (known : ℕ) where
-    pub rest-wrong : beyond 20000 (restIn bytes) ≡ true → FieldsRead bytes known 2 0 (pos 0) (pos 0) 0
+    pub rest-wrong : beyond 20000 (restIn bytes) ≡ true → FieldsRead bytes known (noHeader 2)
     rest-wrong far = record { refusal-is = rw far; slots-is = refl; band-is = refl; rest-is = refl; count-is = refl }
 
     module _ (near : beyond 20000 (restIn bytes) ≡ false) where
-      pub band-wrong : outsideBand (pos (bandIn bytes)) ≡ true → FieldsRead bytes known 3 0 (pos 0) (pos 0) 0
+      pub band-wrong : outsideBand (pos (bandIn bytes)) ≡ true → FieldsRead bytes known (noHeader 3)
       band-wrong outside = record { refusal-is = rw (near, outside); slots-is = refl; band-is = refl; rest-is = refl; count-is = refl }
 
-      pub fields-right : outsideBand (pos (bandIn bytes)) ≡ false → FieldsRead bytes known 0 (slotsIn bytes) (pos (bandIn bytes)) (restIn bytes) known
+      pub fields-right : outsideBand (pos (bandIn bytes)) ≡ false → FieldsRead bytes known (record { refusal = 0; slots = slotsIn bytes; band = pos (bandIn bytes); rest = restIn bytes; count = known })
       fields-right inside = record { refusal-is = rw (near, inside); slots-is = refl; band-is = refl; rest-is = refl; count-is = refl }

@@ -7,10 +7,9 @@ use record::places;
 use record::record_length;
 ghost use mathlib.Core.Path.{_≡_};
 ghost use Prim.Native.Nat.{_≤_};
-ghost use lib.IntN.{pos};
 ghost use lib.ListN.{length};
-ghost use Rattle.record.specs.Answers.{RecordRead};
-ghost use Rattle.record_read.specs.Inner.{Room, RoomRead, HeaderRead, FrameRead, Framed, fillAfter, FieldsRead, TermsFit, TermsRead};
+ghost use Rattle.record_read.specs.Reading.{RecordRead};
+ghost use Rattle.record_read.specs.Inner.{Room, RoomRead, HeaderRead, FrameRead, Framed, fillAfter, FieldsRead, noHeader, TermsFit, TermsRead};
 
 // A record's header, or the refusal with 0 for each.
 pub struct HeaderAnswer {
@@ -24,7 +23,7 @@ pub struct HeaderAnswer {
 // Reads a record; the nodes and the values of its terms are laid over the fronts of `nodes` and `values`.
 pub fn read_record(bytes: &[u8], nodes: &mut [u16], values: &mut [i16]) -> HeaderAnswer
     requires { ⌜ length (now nodes) ≡ length (now values) ⌝ }
-    ensures { λ r. ⌜ RecordRead (now (bytes .entry)) (r .refusal) (r .slots) (r .band) (r .rest) (r .count) (now (nodes .entry)) (now (nodes .exit)) (now (values .entry)) (now (values .exit)) ⌝ }
+    ensures { λ r. ⌜ RecordRead (now (bytes .entry)) r (now (nodes .entry)) (now (nodes .exit)) (now (values .entry)) (now (values .exit)) ⌝ }
 {
     let mut room_of_nodes = [0u16; 1023];
     let mut room_of_values = [0i16; 1023];
@@ -44,7 +43,7 @@ pub fn read_record(bytes: &[u8], nodes: &mut [u16], values: &mut [i16]) -> Heade
 // Reads a record into room for 1,023 terms, for the calls that have no destination of the caller's: they never refuse with 6.
 pub fn read_into_room(bytes: &[u8], nodes: &mut [u16], values: &mut [i16]) -> HeaderAnswer
     requires { ⌜ Room (now nodes) (now values) ⌝ }
-    ensures { λ r. ⌜ RoomRead (now (bytes .entry)) (r .refusal) (r .slots) (r .band) (r .rest) (r .count) (now (nodes .entry)) (now (nodes .exit)) (now (values .entry)) (now (values .exit)) ⌝ }
+    ensures { λ r. ⌜ RoomRead (now (bytes .entry)) r (now (nodes .entry)) (now (nodes .exit)) (now (values .entry)) (now (values .exit)) ⌝ }
 {
     let header = read_header(bytes);
     if 0 < header.refusal {
@@ -61,7 +60,7 @@ pub fn read_into_room(bytes: &[u8], nodes: &mut [u16], values: &mut [i16]) -> He
 
 // The header of a record, with the refusals 7, 2 and 3.
 fn read_header(bytes: &[u8]) -> HeaderAnswer
-    ensures { λ r. ⌜ HeaderRead (now (bytes .entry)) (r .refusal) (r .slots) (r .band) (r .rest) (r .count) ⌝ }
+    ensures { λ r. ⌜ HeaderRead (now (bytes .entry)) r ⌝ }
 {
     let frame = read_frame(bytes);
     if frame.right {
@@ -117,7 +116,7 @@ fn read_fill(bytes: &[u8], count: usize) -> u16
 // The fields of a header whose frame is right, with the refusals 2 and 3.
 fn read_fields(bytes: &[u8], count: usize) -> HeaderAnswer
     requires { ⌜ 7 ≤ length (now bytes) ⌝ }
-    ensures { λ r. ⌜ FieldsRead (now (bytes .entry)) count (r .refusal) (r .slots) (r .band) (r .rest) (r .count) ⌝ }
+    ensures { λ r. ⌜ FieldsRead (now (bytes .entry)) count r ⌝ }
 {
     let places = places();
     let rest = places.rest.read_signed(BitPlace::REST, bytes) as i32;
@@ -155,7 +154,7 @@ fn read_terms(bytes: &[u8], count: usize, nodes: &mut [u16], values: &mut [i16])
 }
 
 fn refused(refusal: u8) -> HeaderAnswer
-    ensures { λ r. ⌜ (r .refusal ≡ refusal) × (r .slots ≡ 0) × (r .band ≡ pos 0) × (r .rest ≡ pos 0) × (r .count ≡ 0) ⌝ }
+    ensures { λ r. ⌜ r ≡ noHeader refusal ⌝ }
 {
     HeaderAnswer {
         refusal: refusal,

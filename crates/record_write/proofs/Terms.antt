@@ -5,25 +5,26 @@ use Prim.Native.Nat.{ℕ, suc, _+_, _*_, _≤_, _<_}
 use native.Mathlib.Numerals.{add-one}
 use native.Mathlib.Omega.{arith}
 use lib.IntN.{ℤ, pos}
-use lib.ListN.{length, getD, drop, length-append, take-append-drop, drop-of-length-le}
+use lib.ListN.{length, getD, drop, take-append-drop, drop-of-length-le}
 use Rattle.bits.specs.Bits.{bitsOf, replacedAt}
-use Rattle.bits.proofs.Fields.{length-bits}
 use Rattle.bits.proofs.Bytes.{length-bits-of}
 use Rattle.histogram.specs.Terms.{paired}
 use Rattle.histogram.proofs.Paired.{onwards, termAt, term-there}
-use Rattle.record.specs.Record.{termBits, termsBits}
+use Rattle.record.specs.Layout.{layoutWidth, entriesBits}
+use Rattle.record.specs.Record.{headerLayout, termLayout, termBits, termsBits, termsEnd}
+use Rattle.record.proofs.Layouts.{length-layout}
 use Rattle.record_write.specs.Inner.{TermPut}
 use Rattle.bits.proofs.Replacing.{replaced-both}
 
--- the first i terms are written: the others, written from `place` on, give what all of them give from bit 55 on
+-- the first i terms are written: the others, written from `place` on, give what all of them give behind the header
 pub record WrittenSoFar (nodes : List ℕ) (values : List ℤ) (before now : List ℕ) (place i : ℕ) : Type 0 where
   pub inside : i ≤ length nodes
-  pub place-is : place ≡ 55 + 26 * i
+  pub place-is : place ≡ termsEnd i
   pub same-length : length now ≡ length before
-  pub others-to-come : replacedAt place (termsBits (onwards nodes values i)) (bitsOf now) ≡ replacedAt 55 (termsBits (paired nodes values)) (bitsOf before)
+  pub others-to-come : replacedAt place (termsBits (onwards nodes values i)) (bitsOf now) ≡ replacedAt (layoutWidth headerLayout) (termsBits (paired nodes values)) (bitsOf before)
 
 module _ (nodes : List ℕ) (values : List ℤ) (before : List ℕ) where
-  pub none-written : (place : ℕ) → place ≡ 55 → WrittenSoFar nodes values before before place 0
+  pub none-written : (place : ℕ) → place ≡ layoutWidth headerLayout → WrittenSoFar nodes values before before place 0
   none-written place at-first = record {
     inside = omega arith;
     place-is = omega arith;
@@ -31,14 +32,14 @@ module _ (nodes : List ℕ) (values : List ℤ) (before : List ℕ) where
     others-to-come = ap (λ (p : ℕ). replacedAt p (termsBits (paired nodes values)) (bitsOf before)) at-first;
   }
 
-  pub one-more-written : {now after : List ℕ} {place next i : ℕ} → length nodes ≡ length values → 55 + 26 * length nodes ≤ 8 * length before
+  pub one-more-written : {now after : List ℕ} {place next i : ℕ} → length nodes ≡ length values → termsEnd (length nodes) ≤ 8 * length before
       → WrittenSoFar nodes values before now place i → i < length nodes → length after ≡ length now
       → TermPut place (getD nodes i 0) (getD values i (pos 0)) next now after → WrittenSoFar nodes values before after next (i + 1)
-  unfolding termsBits
+  unfolding entriesBits
   one-more-written {now} {after} {place} {next} {i} same room so-far more as-long put =
       let first : List ℕ = termBits (termAt nodes values i) in
       let others : List ℕ = termsBits (onwards nodes values (suc i)) in
-      let first-long : length first ≡ 26 = simp (length-append, length-bits) in
+      let first-long : length first ≡ layoutWidth termLayout = length-layout (termAt nodes values i) termLayout in
       let behind : place + length first ≡ next = omega (arith, put .next-is) in
       let within : place ≤ length (bitsOf now) = omega (arith, so-far .place-is, so-far .same-length, length-bits-of now) in
       let left : termsBits (onwards nodes values i) ≡ first ++ others = ap termsBits (term-there nodes values i same more) in
@@ -54,8 +55,8 @@ module _ (nodes : List ℕ) (values : List ℤ) (before : List ℕ) where
       }
 
   pub all-written : {now : List ℕ} {place i : ℕ} → WrittenSoFar nodes values before now place i → length nodes ≤ i
-      → bitsOf now ≡ replacedAt 55 (termsBits (paired nodes values)) (bitsOf before)
-  unfolding paired termsBits
+      → bitsOf now ≡ replacedAt (layoutWidth headerLayout) (termsBits (paired nodes values)) (bitsOf before)
+  unfolding paired entriesBits
   all-written {now} {place} {i} so-far done =
       let none-left : drop i nodes ≡ [] = drop-of-length-le nodes done in
       let no-further : place + length {A = ℕ} [] ≡ place = omega arith in

@@ -5,7 +5,8 @@ use Prim.Native.Nat.{ℕ, _+_, _*_, _-_, _^_, _≤_, _<_}
 use lib.IntN.{ℤ}
 use lib.ListN.{length, getD, take, replicate}
 use Rattle.bits.specs.Bits.{bitsOf, replacedAt}
-use Rattle.record.specs.Record.{termBits, recordLength}
+use Rattle.record.specs.Layout.{layoutWidth}
+use Rattle.record.specs.Record.{termLayout, termBits, recordLength}
 
 -- numbers of a header that fit their fields, and bytes that have room for it; its band and its rest value fit by their types
 pub record HeaderFits (n count : ℕ) (bytes : List ℕ) : Type 0 where
@@ -34,12 +35,12 @@ pub record RecordFits (n : ℕ) (nodes : List ℕ) (values : List ℤ) (bytes : 
 -- a node that fits its field, and a place with room for a term, behind which a place can be counted
 pub record TermFits (place node : ℕ) (bytes : List ℕ) : Type 0 where
   pub node-fits : node < 1024
-  pub room : place + 26 ≤ 8 * length bytes
-  pub counted : place + 26 < 2 ^ 64
+  pub room : place + layoutWidth termLayout ≤ 8 * length bytes
+  pub counted : place + layoutWidth termLayout < 2 ^ 64
 
 -- a term written at a place, and the place after it
 pub record TermPut (place node : ℕ) (value : ℤ) (next : ℕ) (before after : List ℕ) : Type 0 where
-  pub next-is : next ≡ place + 26
+  pub next-is : next ≡ place + layoutWidth termLayout
   pub bits-are : bitsOf after ≡ replacedAt place (termBits (record { node = node; value = value })) (bitsOf before)
 
 -- bits with zeros from some place on

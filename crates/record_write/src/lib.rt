@@ -7,13 +7,13 @@ use record::after_terms;
 use record::places;
 use record::record_length;
 ghost use mathlib.Core.Path.{_≡_};
-ghost use mathlib.Core.List.{_++_};
-ghost use Prim.Native.Nat.{_+_, _*_};
-ghost use lib.ListN.{length, drop};
+ghost use lib.ListN.{length};
 ghost use Rattle.bits.specs.Bits.{bitsOf, replacedAt};
 ghost use Rattle.histogram.specs.Terms.{paired};
-ghost use Rattle.record.specs.Record.{headerBits, termsBits, recordBytes};
-ghost use Rattle.record.specs.Answers.{packingRefusal, RecordWritten};
+ghost use Rattle.record.specs.Layout.{layoutWidth};
+ghost use Rattle.record.specs.Record.{headerLayout, headerBits, termsBits, termsEnd, recordBytes};
+ghost use Rattle.record.specs.Answers.{packingRefusal};
+ghost use Rattle.record_write.specs.Writing.{RecordWritten};
 ghost use Rattle.record_write.specs.Inner.{RecordFits, HeaderFits, TermsFit, TermFits, TermPut, FillFits, filled};
 
 // The refusal, or 0 and how many bytes were written.
@@ -32,7 +32,7 @@ pub fn write_record(
     destination: &mut [u8],
 ) -> WriteAnswer
     requires { ⌜ length (now nodes) ≡ length (now values) ⌝ }
-    ensures { λ r. ⌜ RecordWritten slots band rest (paired (now (nodes .entry)) (now (values .entry))) (r .refusal) (r .count) (now (destination .entry)) (now (destination .exit)) ⌝ }
+    ensures { λ r. ⌜ RecordWritten slots band rest (paired (now (nodes .entry)) (now (values .entry))) r (now (destination .entry)) (now (destination .exit)) ⌝ }
 {
     let refusal = refuse(slots, band, rest, nodes, values);
     if 0 < refusal {
@@ -92,10 +92,10 @@ fn put_record(slots: usize, band: u16, rest: i16, nodes: &[u16], values: &[i16],
     put_fill(nodes.len(), bytes);
 }
 
-// Writes the five fields of a header over the first 55 bits.
+// Writes the five fields of a header over the first bits.
 fn put_header(slots: usize, band: u16, rest: i16, count: usize, bytes: &mut [u8])
     requires { ⌜ HeaderFits slots count (now bytes) ⌝ }
-    ensures { λ _. ⌜ bitsOf (now (bytes .exit)) ≡ headerBits slots band rest count ++ drop 55 (bitsOf (now (bytes .entry))) ⌝ }
+    ensures { λ _. ⌜ bitsOf (now (bytes .exit)) ≡ replacedAt 0 (headerBits slots band rest count) (bitsOf (now (bytes .entry))) ⌝ }
 {
     let places = places();
     BitPlace::start().write(BitPlace::VERSION, 1, bytes);
@@ -109,7 +109,7 @@ fn put_header(slots: usize, band: u16, rest: i16, count: usize, bytes: &mut [u8]
 // Writes terms behind a header, one after another.
 fn put_terms(nodes: &[u16], values: &[i16], bytes: &mut [u8])
     requires { ⌜ TermsFit (now nodes) (now values) (now bytes) ⌝ }
-    ensures { λ _. ⌜ bitsOf (now (bytes .exit)) ≡ replacedAt 55 (termsBits (paired (now (nodes .entry)) (now (values .entry)))) (bitsOf (now (bytes .entry))) ⌝ }
+    ensures { λ _. ⌜ bitsOf (now (bytes .exit)) ≡ replacedAt (layoutWidth headerLayout) (termsBits (paired (now (nodes .entry)) (now (values .entry)))) (bitsOf (now (bytes .entry))) ⌝ }
 {
     let mut place = places().terms;
     let mut i = 0;
@@ -133,7 +133,7 @@ fn put_term(place: BitPlace, node: u16, value: i16, bytes: &mut [u8]) -> BitPlac
 // Writes zeros behind the last term, to the end of the last byte.
 fn put_fill(count: usize, bytes: &mut [u8])
     requires { ⌜ FillFits count (now bytes) ⌝ }
-    ensures { λ _. ⌜ bitsOf (now (bytes .exit)) ≡ filled (55 + 26 * count) (bitsOf (now (bytes .entry))) ⌝ }
+    ensures { λ _. ⌜ bitsOf (now (bytes .exit)) ≡ filled (termsEnd count) (bitsOf (now (bytes .entry))) ⌝ }
 {
     let place = after_terms(count);
     let end = 8 * bytes.len();

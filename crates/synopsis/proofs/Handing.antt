@@ -36,7 +36,7 @@ module _ (profile : List ℤ) (rest band : ℤ) (answer : BuildAnswer) (parts : 
 -- a record's terms, in the slice
 pub read-over : (bytes : List ℕ) (answer : HeaderAnswer) (parts : Parts) (terms terms′ : List Term)
     → ReadInRoom bytes (length terms) answer parts → terms′ ≡ laid (termsOf parts) terms
-    → TermsRead bytes (answer .refusal) (answer .slots) (answer .band) (answer .rest) (answer .count) terms terms′
+    → TermsRead bytes answer terms terms′
 read-over bytes answer parts terms terms′ read laid-is = record {
   refusal-is = read .refusal-is;
   header = read .header;

@@ -22,7 +22,8 @@ use Rattle.histogram.specs.Restoring.{SlotRestored, ProfileRestored}
 use Rattle.histogram.proofs.Powers.{padded-bound}
 use Rattle.record.specs.Record.{recordLength, recordBytes}
 use Rattle.record.specs.Answers as writing
-use Rattle.record.specs.Answers.{RecordWritten}
+use Rattle.record_write.specs.declared.WriteAnswer.{WriteAnswer}
+use Rattle.record_write.specs.Writing.{RecordWritten}
 use Rattle.synopsis.specs.declared.Parts.{Parts}
 use Rattle.synopsis.specs.Inner.{termsOf, PartsOf}
 
@@ -106,14 +107,14 @@ module _ (first terms : List Term) (many-first : 1023 < length first) (many : 10
         destination-is = said .destination-is ∙ ap (λ (l : List ℤ). laid l before) (regranted refusal _ (restoredProfile n rest terms) [] (still-wrong refusal _ _ is (restoring-refused n rest)));
       }
 
-  many-written : (n : ℕ) (band rest : ℤ) (refusal count : ℕ) (before after : List ℕ) → RecordWritten n band rest first refusal count before after → RecordWritten n band rest terms refusal count before after
-  many-written n band rest refusal count before after said =
-      let is = moved refusal _ _ _ (6 when ltb (length before) (recordLength (length terms))) (said .refusal-is) (same-writing n band rest) (writing-refused n band rest) in
-      let wrong : 0 < refusal = still-wrong refusal _ _ is (writing-refused n band rest) in
+  many-written : (n : ℕ) (band rest : ℤ) (answer : WriteAnswer) (before after : List ℕ) → RecordWritten n band rest first answer before after → RecordWritten n band rest terms answer before after
+  many-written n band rest answer before after said =
+      let is = moved (answer .refusal) _ _ _ (6 when ltb (length before) (recordLength (length terms))) (said .refusal-is) (same-writing n band rest) (writing-refused n band rest) in
+      let wrong : 0 < answer .refusal = still-wrong (answer .refusal) _ _ is (writing-refused n band rest) in
       record {
         refusal-is = is;
-        count-is = said .count-is ∙ regranted refusal _ (recordLength (length terms)) 0 wrong;
-        destination-is = said .destination-is ∙ ap (λ (l : List ℕ). laid l before) (regranted refusal _ (recordBytes n (natAbs band) rest terms) [] wrong);
+        count-is = said .count-is ∙ regranted (answer .refusal) _ (recordLength (length terms)) 0 wrong;
+        destination-is = said .destination-is ∙ ap (λ (l : List ℕ). laid l before) (regranted (answer .refusal) _ (recordBytes n (natAbs band) rest terms) [] wrong);
       }
 
 -- what holds of the first 1,024 terms holds of all, if it does so of more than 1,023
@@ -138,7 +139,7 @@ module _ (terms : List Term) (parts : Parts) (of-terms : PartsOf terms parts) wh
       of-all (λ (l : List Term). ProfileRestored n rest l refusal before after) terms (λ many-first many. many-profile (take 1024 terms) terms many-first many n rest refusal before after)
       (subst (λ (l : List Term). ProfileRestored n rest l refusal before after) (of-terms .terms-are) said)
 
-  pub record-written : (n : ℕ) (band rest : ℤ) (refusal count : ℕ) (before after : List ℕ) → RecordWritten n band rest (termsOf parts) refusal count before after → RecordWritten n band rest terms refusal count before after
-  record-written n band rest refusal count before after said =
-      of-all (λ (l : List Term). RecordWritten n band rest l refusal count before after) terms (λ many-first many. many-written (take 1024 terms) terms many-first many n band rest refusal count before after)
-      (subst (λ (l : List Term). RecordWritten n band rest l refusal count before after) (of-terms .terms-are) said)
+  pub record-written : (n : ℕ) (band rest : ℤ) (answer : WriteAnswer) (before after : List ℕ) → RecordWritten n band rest (termsOf parts) answer before after → RecordWritten n band rest terms answer before after
+  record-written n band rest answer before after said =
+      of-all (λ (l : List Term). RecordWritten n band rest l answer before after) terms (λ many-first many. many-written (take 1024 terms) terms many-first many n band rest answer before after)
+      (subst (λ (l : List Term). RecordWritten n band rest l answer before after) (of-terms .terms-are) said)

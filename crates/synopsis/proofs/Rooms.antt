@@ -5,7 +5,7 @@ use mathlib.Core.List.{List, [], _∷_, _++_}
 use Prim.Native.Nat.{ℕ, zero, suc, _≤_, _<_, min}
 use native.Mathlib.Omega.{arith}
 use lib.Dec.{ltb}
-use lib.IntN.{ℤ, pos}
+use lib.IntN.{ℤ}
 use lib.ListN.{length, take, length-append, length-map}
 use lib.Seq.{take-all, take-append-le, length-take-le}
 use borrow.Author.Tests.{lt-ltb, le-ltb, ltb-true, ltb-false}
@@ -20,7 +20,7 @@ use Rattle.histogram.proofs.Paired.{paired-again}
 use Rattle.histogram.proofs.Powers.{padded-bound}
 use Rattle.record.specs.Record.{countIn, termsIn}
 use Rattle.record.specs.Answers.{recordRefusal}
-use Rattle.record_read.specs.Inner.{RoomRead}
+use Rattle.record_read.specs.Inner.{RoomRead, noHeader}
 use Rattle.record_read.specs.declared.HeaderAnswer.{HeaderAnswer}
 use Rattle.record_read.proofs.Accepted as accepted
 use Rattle.record_read.proofs.Frames.{no-header}
@@ -104,8 +104,8 @@ module _ (profile : List ℤ) (rest band : ℤ) (places limit : ℕ) (limit-is :
   }
 
 -- a record that was read into the room
-module _ (bytes : List ℕ) (places : ℕ) (header : HeaderAnswer) (nodes nodes′ : List ℕ) (values values′ : List ℤ)
-    (read : RoomRead bytes (header .refusal) (header .slots) (header .band) (header .rest) (header .count) nodes nodes′ values values′) where
+module _ (places : ℕ) {bytes : List ℕ} {header : HeaderAnswer} {nodes nodes′ : List ℕ} {values values′ : List ℤ}
+    (read : RoomRead bytes header nodes nodes′ values values′) where
   abbrev Answered : HeaderAnswer → Type 0
   Answered answer = ReadInRoom bytes places answer (record { count = answer .count; nodes = nodes′; values = values′ })
 
@@ -115,12 +115,12 @@ module _ (bytes : List ℕ) (places : ℕ) (header : HeaderAnswer) (nodes nodes�
     none = omega arith
 
     record-right : recordRefusal bytes ≡ 0
-    record-right = accepted.record-right bytes _ _ _ _ _ nodes nodes′ values values′ read right
+    record-right = accepted.record-right read right
 
     count-is : header .count ≡ countIn bytes
-    count-is = accepted.count-is bytes _ _ _ _ _ nodes nodes′ values values′ read right
+    count-is = accepted.count-is read right
 
-    too-short : places < header .count → Answered (record { refusal = 6; slots = 0; band = pos 0; rest = pos 0; count = 0 })
+    too-short : places < header .count → Answered (noHeader 6)
     unfolding paired
     too-short short = record {
       refusal-is = rw (record-right, lt-ltb places (countIn bytes) (omega (arith, count-is, short)));
@@ -133,11 +133,11 @@ module _ (bytes : List ℕ) (places : ℕ) (header : HeaderAnswer) (nodes nodes�
     all-read long = record {
       refusal-is = none ∙ rw (record-right, le-ltb places (countIn bytes) (omega (arith, count-is, long)));
       header = read .header;
-      terms-are = rw none (ap₂ paired (accepted.room-nodes bytes _ _ _ _ _ nodes nodes′ values values′ read right) (accepted.room-values bytes _ _ _ _ _ nodes nodes′ values values′ read right) ∙ paired-again (termsIn bytes));
+      terms-are = rw none (ap₂ paired (accepted.room-nodes read right) (accepted.room-values read right) ∙ paired-again (termsIn bytes));
       fit = record {
         within = record {
-          of-nodes = accepted.in-nodes bytes _ _ _ _ _ nodes nodes′ values values′ read right;
-          of-values = accepted.in-values bytes _ _ _ _ _ nodes nodes′ values values′ read right;
+          of-nodes = accepted.in-nodes read right;
+          of-values = accepted.in-values read right;
         };
         in-terms = long;
       };

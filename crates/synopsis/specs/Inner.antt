@@ -9,8 +9,10 @@ use lib.ListN.{length, getD, take}
 use Rattle.limits.specs.Answers.{granted}
 use Rattle.histogram.specs.declared.Term.{Term}
 use Rattle.record.specs.Record.{termsIn}
-use Rattle.record.specs.Answers.{readingRefusal, HeaderOf}
+use Rattle.record.specs.Answers.{readingRefusal}
 use Rattle.record_read.specs.declared.HeaderAnswer.{HeaderAnswer}
+use Rattle.record_read.specs.Reading.{HeaderOf}
+use Rattle.record_read.specs.Inner.{noHeader}
 use Rattle.build.specs.Building.{Built, handedOver}
 use Rattle.build.specs.declared.BuildAnswer.{BuildAnswer}
 use Rattle.synopsis.specs.declared.Parts.{Parts}
@@ -44,12 +46,12 @@ pub record FitTogether (parts : Parts) (places : ℕ) : Type 0 where
 
 -- a record's header, or 6 where it has more terms than places
 abbrev pub forPlaces : ℕ → HeaderAnswer → HeaderAnswer
-forPlaces places header = cond (ltb places (header .count)) (record { refusal = 6; slots = 0; band = pos 0; rest = pos 0; count = 0 }) header
+forPlaces places header = cond (ltb places (header .count)) (noHeader 6) header
 
 -- a record read for a destination of that many places
 pub record ReadInRoom (bytes : List ℕ) (places : ℕ) (answer : HeaderAnswer) (parts : Parts) : Type 0 where
   pub refusal-is : answer .refusal ≡ readingRefusal bytes places
-  pub header : HeaderOf bytes (answer .refusal) (answer .slots) (answer .band) (answer .rest) (answer .count)
+  pub header : HeaderOf bytes answer
   pub terms-are : termsOf parts ≡ granted (answer .refusal) (termsIn bytes) []
   pub fit : FitTogether parts places
 

@@ -11,7 +11,7 @@ ghost use Prim.Native.Nat.{_<_};
 ghost use lib.ListN.{length, set, take};
 ghost use Rattle.limits.specs.Answers.{laid};
 ghost use Rattle.histogram.specs.Restoring.{SlotRestored, ProfileRestored};
-ghost use Rattle.record.specs.Answers.{RecordWritten};
+ghost use Rattle.record_write.specs.Writing.{RecordWritten};
 ghost use Rattle.build.specs.Building.{Built};
 ghost use Rattle.synopsis.specs.Answers.{TermsRead, TermsHanded};
 ghost use Rattle.synopsis.specs.Inner.{termAt, Within, PartsOf, FitTogether, termsOf, BuiltInRoom, forPlaces, ReadInRoom};
@@ -140,7 +140,7 @@ pub fn write_record(
     terms: &[Term],
     destination: &mut [u8],
 ) -> WriteAnswer
-    ensures { λ r. ⌜ RecordWritten slots band rest (now (terms .entry)) (r .refusal) (r .count) (now (destination .entry)) (now (destination .exit)) ⌝ }
+    ensures { λ r. ⌜ RecordWritten slots band rest (now (terms .entry)) r (now (destination .entry)) (now (destination .exit)) ⌝ }
 {
     let parts = take_apart(terms);
     write_record_of_parts(slots, band, rest, parts, destination)
@@ -155,7 +155,7 @@ fn write_record_of_parts(
     destination: &mut [u8],
 ) -> WriteAnswer
     requires { ⌜ Within parts ⌝ }
-    ensures { λ r. ⌜ RecordWritten slots band rest (termsOf parts) (r .refusal) (r .count) (now (destination .entry)) (now (destination .exit)) ⌝ }
+    ensures { λ r. ⌜ RecordWritten slots band rest (termsOf parts) r (now (destination .entry)) (now (destination .exit)) ⌝ }
 {
     let count = parts.count;
     let nodes = parts.nodes;
@@ -172,7 +172,7 @@ fn write_record_of_parts(
 
 // Reads a record; its terms are laid over the front of `terms`.
 pub fn read_record(bytes: &[u8], terms: &mut [Term]) -> HeaderAnswer
-    ensures { λ r. ⌜ TermsRead (now (bytes .entry)) (r .refusal) (r .slots) (r .band) (r .rest) (r .count) (now (terms .entry)) (now (terms .exit)) ⌝ }
+    ensures { λ r. ⌜ TermsRead (now (bytes .entry)) r (now (terms .entry)) (now (terms .exit)) ⌝ }
 {
     let read = read_in_room(bytes, terms.len());
     put_together(read.parts, terms);

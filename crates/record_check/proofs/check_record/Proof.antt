@@ -4,9 +4,9 @@ use native.Mathlib.Omega.{arith}
 use mir.Syntax.{w32}
 use mir.Val.{SFits, Fits}
 use mir.Facts.{toZ-ofZ}
-use Rattle.bits.proofs.Bytes.{field-below}
 use Rattle.limits.proofs.Signed.{narrower, narrower-fits}
 use Rattle.record.specs.Record.{bandIn}
+use Rattle.record.proofs.Bounds.{band-bound}
 use Rattle.record_read.proofs.Accepted as Accepted
 use Rattle.record_check.proofs.Checks as Checks
 use borrow.Author.Needs.{needs}
@@ -60,7 +60,7 @@ returns-3 : tie.Need-returns-3
 returns-3 c =
     let a = c .before .before .before .before .before .before .before .before .before .before .before .before .before .args in
     let r = c .refused3 .ensures in
-    let right = Checks.record-right (a .setpoints .now) (a .bytes .now) _ _ _ _ _ _ _ _ _ (c .before .before .before .before .before .before .before .read-into-room .ensures) (c .before .before .before .if2 .left) in
+    let right = Checks.record-right (a .setpoints .now) (c .before .before .before .before .before .before .before .read-into-room .ensures) (c .before .before .before .if2 .left) in
     rw (r .0, r .1, r .2, r .3)
     (Checks.setpoint-wrong (a .setpoints .now) (a .bytes .now) (sym (c .before .before .before .before .before .before .before .before .before .before .before .is-outside-slots .ensures) ∙ c .before .before .before .before .before .before .before .before .before .before .if1 .left) right (sym (c .before .before .is-any-beyond .ensures) ∙ c .before .if3 .taken))
 
@@ -72,8 +72,8 @@ returns-4 c =
     let a = c .before .before .before .before .before .before .before .before .before .before .before .before .before .before .before .args in
     let r = c .refused4 .ensures in
     let read = c .before .before .before .before .before .before .before .before .before .read-into-room .ensures in
-    let right = Checks.record-right (a .setpoints .now) (a .bytes .now) _ _ _ _ _ _ _ _ _ read (c .before .before .before .before .before .if2 .left) in
-    let slots = Checks.slots-are (a .setpoints .now) (a .bytes .now) _ _ _ _ _ _ _ _ _ read (c .before .before .before .before .before .if2 .left) in
+    let right = Checks.record-right (a .setpoints .now) read (c .before .before .before .before .before .if2 .left) in
+    let slots = Checks.slots-are (a .setpoints .now) read (c .before .before .before .before .before .if2 .left) in
     rw (r .0, r .1, r .2, r .3)
     (Checks.other-length (a .setpoints .now) (a .bytes .now) (sym (c .before .before .before .before .before .before .before .before .before .before .before .before .before .is-outside-slots .ensures) ∙ c .before .before .before .before .before .before .before .before .before .before .before .before .if1 .left) right (sym (c .before .before .before .before .is-any-beyond .ensures) ∙ c .before .before .before .if3 .left)
     (λ same. c .before .if4 .taken (slots ∙ same)))
@@ -82,27 +82,27 @@ cast-judge : tie.Need-cast-judge
 cast-judge c =
     let a = c .before .before .before .before .before .before .before .before .before .before .before .before .before .before .before .before .args in
     let room = c .before .before .before .before .before .before .before .before .before .before in
-    let band = Checks.band-is (a .setpoints .now) (a .bytes .now) _ _ _ _ _ _ _ _ _ (room .read-into-room .ensures) (c .before .before .before .before .before .before .if2 .left) in
-    let fits : Fits w32 (bandIn (a .bytes .now)) = omega (arith, field-below (a .bytes .now) 13 16) in
+    let band = Checks.band-is (a .setpoints .now) (room .read-into-room .ensures) (c .before .before .before .before .before .before .if2 .left) in
+    let fits : Fits w32 (bandIn (a .bytes .now)) = omega (arith, band-bound (a .bytes .now)) in
     rw (toZ-ofZ (band-fits room), band) (tt, fits)
 
 cast-judge-2 : tie.Need-cast-judge-2
 cast-judge-2 c =
     let a = c .before .before .before .before .before .before .before .before .before .before .before .before .before .before .before .before .before .before .args in
     let room = c .before .before .before .before .before .before .before .before .before .before .before .before in
-    narrower-fits (rest-fits room) (Checks.rest-within (a .setpoints .now) (a .bytes .now) _ _ _ _ _ _ _ _ _ (room .read-into-room .ensures) (c .before .before .before .before .before .before .before .before .if2 .left))
+    narrower-fits (rest-fits room) (Checks.rest-within (a .setpoints .now) (room .read-into-room .ensures) (c .before .before .before .before .before .before .before .before .if2 .left))
 
 array-share-prefix-nodes : tie.Need-array-share-prefix-nodes
-array-share-prefix-nodes c = Accepted.in-nodes (c .before .before .before .before .before .before .before .before .before .before .before .before .before .before .before .before .before .before .args .bytes .now) _ _ _ _ _ _ _ _ _ (c .before .before .before .before .before .before .before .before .before .before .before .before .read-into-room .ensures) (c .before .before .before .before .before .before .before .before .if2 .left)
+array-share-prefix-nodes c = Accepted.in-nodes (c .before .before .before .before .before .before .before .before .before .before .before .before .read-into-room .ensures) (c .before .before .before .before .before .before .before .before .if2 .left)
 
 slice-aggregate-judge : tie.Need-slice-aggregate-judge
-slice-aggregate-judge c = sym (Accepted.nodes-counted (c .before .before .before .before .before .before .before .before .before .before .before .before .before .before .before .before .before .before .before .args .bytes .now) _ _ _ _ _ _ _ _ _ (c .before .before .before .before .before .before .before .before .before .before .before .before .before .read-into-room .ensures) (c .before .before .before .before .before .before .before .before .before .if2 .left))
+slice-aggregate-judge c = sym (Accepted.nodes-counted (c .before .before .before .before .before .before .before .before .before .before .before .before .before .read-into-room .ensures) (c .before .before .before .before .before .before .before .before .before .if2 .left))
 
 array-share-prefix-values : tie.Need-array-share-prefix-values
-array-share-prefix-values c = Accepted.in-values (c .before .before .before .before .before .before .before .before .before .before .before .before .before .before .before .before .before .before .before .args .bytes .now) _ _ _ _ _ _ _ _ _ (c .before .before .before .before .before .before .before .before .before .before .before .before .before .read-into-room .ensures) (c .before .before .before .before .before .before .before .before .before .if2 .left)
+array-share-prefix-values c = Accepted.in-values (c .before .before .before .before .before .before .before .before .before .before .before .before .before .read-into-room .ensures) (c .before .before .before .before .before .before .before .before .before .if2 .left)
 
 slice-aggregate-judge-2 : tie.Need-slice-aggregate-judge-2
-slice-aggregate-judge-2 c = sym (Accepted.values-counted (c .before .before .before .before .before .before .before .before .before .before .before .before .before .before .before .before .before .before .before .before .args .bytes .now) _ _ _ _ _ _ _ _ _ (c .before .before .before .before .before .before .before .before .before .before .before .before .before .before .read-into-room .ensures) (c .before .before .before .before .before .before .before .before .before .before .if2 .left))
+slice-aggregate-judge-2 c = sym (Accepted.values-counted (c .before .before .before .before .before .before .before .before .before .before .before .before .before .before .read-into-room .ensures) (c .before .before .before .before .before .before .before .before .before .before .if2 .left))
 
 judge-requires : tie.Need-judge-requires
 judge-requires c κs =
@@ -110,10 +110,10 @@ judge-requires c κs =
     let room = c .before .before .before .before .before .before .before .before .before .before .before .before .before .before in
     let read = room .read-into-room .ensures in
     let right = c .before .before .before .before .before .before .before .before .before .before .if2 .left in
-    let near = Checks.rest-within (a .setpoints .now) (a .bytes .now) _ _ _ _ _ _ _ _ _ read right in
-    let band = Checks.band-is (a .setpoints .now) (a .bytes .now) _ _ _ _ _ _ _ _ _ read right in
+    let near = Checks.rest-within (a .setpoints .now) read right in
+    let band = Checks.band-is (a .setpoints .now) read right in
     rw (narrower (rest-fits room) near, toZ-ofZ (band-fits room), band)
-    (Checks.judgeable (a .setpoints .now) (a .bytes .now) _ _ _ _ _ _ _ _ _ read right (sym (c .before .before .before .before .before .before .before .before .before .before .before .before .before .before .before .before .before .before .is-outside-slots .ensures) ∙ c .before .before .before .before .before .before .before .before .before .before .before .before .before .before .before .before .before .if1 .left)
+    (Checks.judgeable (a .setpoints .now) read right (sym (c .before .before .before .before .before .before .before .before .before .before .before .before .before .before .before .before .before .before .is-outside-slots .ensures) ∙ c .before .before .before .before .before .before .before .before .before .before .before .before .before .before .before .before .before .if1 .left)
     (sym (c .before .before .before .before .before .before .before .before .before .is-any-beyond .ensures) ∙ c .before .before .before .before .before .before .before .before .if3 .left) (c .before .before .before .before .before .before .if4 .left))
 
 returns-5 : tie.Need-returns-5
@@ -122,15 +122,15 @@ returns-5 c =
     let room = c .before .before .before .before .before .before .before .before .before .before .before .before .before .before .before in
     let read = room .read-into-room .ensures in
     let right = c .before .before .before .before .before .before .before .before .before .before .before .if2 .left in
-    let near = Checks.rest-within (a .setpoints .now) (a .bytes .now) _ _ _ _ _ _ _ _ _ read right in
-    let band = Checks.band-is (a .setpoints .now) (a .bytes .now) _ _ _ _ _ _ _ _ _ read right in
-    let rest = Checks.rest-is (a .setpoints .now) (a .bytes .now) _ _ _ _ _ _ _ _ _ read right in
-    let terms = Checks.terms-are (a .setpoints .now) (a .bytes .now) _ _ _ _ _ _ _ _ _ read right in
-    let slots = Checks.slots-are (a .setpoints .now) (a .bytes .now) _ _ _ _ _ _ _ _ _ read right in
+    let near = Checks.rest-within (a .setpoints .now) read right in
+    let band = Checks.band-is (a .setpoints .now) read right in
+    let rest = Checks.rest-is (a .setpoints .now) read right in
+    let terms = Checks.terms-are (a .setpoints .now) read right in
+    let slots = Checks.slots-are (a .setpoints .now) read right in
     let verdict = rw (narrower (rest-fits room) near, toZ-ofZ (band-fits room), band, rest, terms) at (c .judge .ensures .1) in
     rw (c .judge .ensures .0)
     (Checks.verdict-given (a .setpoints .now) (a .bytes .now) (sym (c .before .before .before .before .before .before .before .before .before .before .before .before .before .before .before .before .before .before .before .is-outside-slots .ensures) ∙ c .before .before .before .before .before .before .before .before .before .before .before .before .before .before .before .before .before .before .if1 .left)
-    (Checks.record-right (a .setpoints .now) (a .bytes .now) _ _ _ _ _ _ _ _ _ read right) (sym (c .before .before .before .before .before .before .before .before .before .before .is-any-beyond .ensures) ∙ c .before .before .before .before .before .before .before .before .before .if3 .left) (sym slots ∙ c .before .before .before .before .before .before .before .if4 .left) _ _ _ verdict)
+    (Checks.record-right (a .setpoints .now) read right) (sym (c .before .before .before .before .before .before .before .before .before .before .is-any-beyond .ensures) ∙ c .before .before .before .before .before .before .before .before .before .if3 .left) (sym slots ∙ c .before .before .before .before .before .before .before .if4 .left) _ _ _ verdict)
 
 pub check-record-spec : {M : Type 1} → statement M
 check-record-spec =

@@ -6,9 +6,9 @@ use mir.Syntax.{w16, w32}
 use mir.Val.{SFits, toZ}
 use mir.Facts.{toZ-ofZ, sfits-widen}
 use mir.ValLaws.{toZ-pos}
-use Rattle.bits.proofs.Bytes.{field-below}
 use Rattle.limits.proofs.Signed.{widened-to}
 use Rattle.record.specs.Record.{bandIn, restIn}
+use Rattle.record.proofs.Bounds.{band-bound}
 use Rattle.record_read.proofs.Frames.{rest-wrong, band-wrong, fields-right}
 use borrow.Author.Needs.{needs}
 use Rattle.record_read.proofs.read_fields.Statement.{statement}
@@ -24,7 +24,7 @@ band-read : (c : tie.After-read) → toZ w32 (c .read .result) ≡ pos (bandIn (
 band-read c =
     let bytes = c .before .before .before .before .before .before .args .bytes .now in
     let is = rw (c .before .before .before .before .places .ensures .of-band) at (c .read .ensures) in
-    toZ-pos w32 (c .read .result) (omega (arith, is, field-below bytes 13 16)) ∙ ap pos is
+    toZ-pos w32 (c .read .result) (omega (arith, is, band-bound bytes)) ∙ ap pos is
 
 places-requires : tie.Need-places-requires
 places-requires c κs = search needs
@@ -44,9 +44,8 @@ refused-requires c κs = search needs
 returns : tie.Need-returns
 returns c =
     let bytes = c .before .before .before .before .before .before .args .bytes .now in
-    let r = c .refused .ensures in
     let test = rw (widened-to w16 w32 tt (rest-fits (c .before .before .before)), rest-read (c .before .before .before)) at (c .before .before .is-beyond .ensures) in
-    rw (r .0, r .1, r .2, r .3, r .4) (rest-wrong bytes (c .before .before .before .before .before .before .args .count) (sym test ∙ c .before .if1 .taken))
+    rw (c .refused .ensures) (rest-wrong bytes (c .before .before .before .before .before .before .args .count) (sym test ∙ c .before .if1 .taken))
 
 read-requires : tie.Need-read-requires
 read-requires c κs = search needs
@@ -63,10 +62,9 @@ refused-requires-2 c κs = search needs
 returns-2 : tie.Need-returns-2
 returns-2 c =
     let bytes = c .before .before .before .before .before .before .before .before .before .args .bytes .now in
-    let r = c .refused2 .ensures in
     let rest-test = rw (widened-to w16 w32 tt (rest-fits (c .before .before .before .before .before .before)), rest-read (c .before .before .before .before .before .before)) at (c .before .before .before .before .before .is-beyond .ensures) in
     let band-test = rw (band-read (c .before .before .before)) at (c .before .before .is-outside-band .ensures) in
-    rw (r .0, r .1, r .2, r .3, r .4) (band-wrong bytes (c .before .before .before .before .before .before .before .before .before .args .count) (sym rest-test ∙ c .before .before .before .before .if1 .left) (sym band-test ∙ c .before .if2 .taken))
+    rw (c .refused2 .ensures) (band-wrong bytes (c .before .before .before .before .before .before .before .before .before .args .count) (sym rest-test ∙ c .before .before .before .before .if1 .left) (sym band-test ∙ c .before .if2 .taken))
 
 read-requires-2 : tie.Need-read-requires-2
 read-requires-2 c κs = search needs

@@ -1,11 +1,12 @@
 -- `record_read::read_fill` meets its contract: the field reaches to the last bit.
 use mathlib.Core.Path.{ap, _∙_}
-use Prim.Native.Nat.{_+_, _*_, _-_}
+use Prim.Native.Nat.{_*_, _-_}
 use native.Mathlib.Omega.{arith}
 use lib.ListN.{length, drop, length-drop}
 use lib.Seq.{take-all}
 use Rattle.bits.specs.Bits.{numberOf, bitsOf}
 use Rattle.bits.proofs.Bytes.{length-bits-of}
+use Rattle.record.specs.Record.{termsEnd}
 use borrow.Author.Needs.{needs}
 use Rattle.record_read.proofs.read_fill.Statement.{statement}
 use Rattle.record_read.proofs.read_fill.Tie as tie
@@ -26,7 +27,7 @@ returns : tie.Need-returns
 returns c =
     let start = c .before .before .before .before in
     let bytes = start .args .bytes .now in
-    let used = 55 + 26 * start .args .count in
+    let used = termsEnd (start .args .count) in
     rw (c .before .before .after-terms .ensures) at (c .read .ensures)
     ∙ ap numberOf (take-all (8 * length bytes - used) (drop used (bitsOf bytes)) (simp length-drop (omega (arith, length-bits-of bytes))))
 

@@ -1,8 +1,8 @@
 -- `record_read::read_frame` meets its contract: each way out is a case of row 7.
 use mathlib.Core.Path.{_≡_, sym, _∙_}
 use native.Mathlib.Omega.{arith}
-use Rattle.bits.proofs.Bytes.{field-below}
 use Rattle.record.specs.Record.{versionIn, countIn}
+use Rattle.record.proofs.Bounds.{few-terms}
 use Rattle.record_read.proofs.Frames.{too-short, wrong-version, wrong-byte-count, by-fill}
 use borrow.Author.Needs.{needs}
 use Rattle.record_read.proofs.read_frame.Statement.{statement}
@@ -35,7 +35,7 @@ cast-count c = search needs
 record-length-requires : tie.Need-record-length-requires
 record-length-requires c κs =
     let bytes = c .before .before .before .before .before .before .args .bytes .now in
-    omega (arith, count-read c, field-below bytes 45 10)
+    omega (arith, count-read c, few-terms bytes)
 
 returns-2 : tie.Need-returns-2
 returns-2 c =
@@ -50,7 +50,7 @@ returns-3 c =
 read-fill-requires : tie.Need-read-fill-requires
 read-fill-requires c κs =
     let bytes = c .before .before .before .before .before .before .before .before .before .args .bytes .now in
-    record { few = omega (arith, count-read (c .before .before .before), field-below bytes 45 10); long = c .before .if2 .left ∙ c .before .before .record-length .ensures }
+    record { few = omega (arith, count-read (c .before .before .before), few-terms bytes); long = c .before .if2 .left ∙ c .before .before .record-length .ensures }
 
 returns-4 : tie.Need-returns-4
 returns-4 c =

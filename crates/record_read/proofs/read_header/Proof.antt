@@ -18,7 +18,7 @@ returns : tie.Need-returns
 returns c =
     let bytes = c .before .before .before .before .args .bytes .now in
     let frame = c .before .before .read-frame .ensures in
-    header-of-fields bytes (sym (frame .right-is) ∙ c .before .if1 .taken) _ _ _ _ _ (rw (frame .count-is (c .before .if1 .taken)) at (c .read-fields .ensures))
+    header-of-fields bytes (sym (frame .right-is) ∙ c .before .if1 .taken) (rw (frame .count-is (c .before .if1 .taken)) at (c .read-fields .ensures))
 
 refused-requires : tie.Need-refused-requires
 refused-requires c κs = search needs
@@ -26,8 +26,7 @@ refused-requires c κs = search needs
 returns-2 : tie.Need-returns-2
 returns-2 c =
     let bytes = c .before .before .before .before .args .bytes .now in
-    let r = c .refused .ensures in
-    rw (r .0, r .1, r .2, r .3, r .4) (malformed bytes (sym (c .before .before .read-frame .ensures .right-is) ∙ c .before .if1 .left))
+    rw (c .refused .ensures) (malformed bytes (sym (c .before .before .read-frame .ensures .right-is) ∙ c .before .if1 .left))
 
 pub read-header-spec : {M : Type 1} → statement M
 read-header-spec =

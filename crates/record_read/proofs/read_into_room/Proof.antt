@@ -16,45 +16,45 @@ read-header-requires c κs = search needs
 returns : tie.Need-returns
 returns c =
     let a = c .before .before .before .before .before .args in
-    Rooms.header-wrong (a .bytes .now) _ _ _ _ _ (c .before .before .read-header .ensures) (a .nodes .now) (a .values .now) (c .if1 .taken)
+    Rooms.header-wrong (c .before .before .read-header .ensures) (a .nodes .now) (a .values .now) (c .if1 .taken)
 
 read-terms-requires : tie.Need-read-terms-requires
 read-terms-requires c κs =
     let bytes = c .before .before .before .before .before .before .before .args .bytes .now in
     let room = c .before .before .before .before .before .before .before .pre in
-    let frame = Rooms.framed bytes _ _ _ _ _ (c .before .before .before .before .read-header .ensures) (c .before .before .if1 .left) in
+    let frame = Rooms.framed (c .before .before .before .before .read-header .ensures) (c .before .before .if1 .left) in
     record { framed = frame; in-nodes = omega (arith, frame .few, room .of-nodes); in-values = omega (arith, frame .few, room .of-values) }
 
 padded-length-requires : tie.Need-padded-length-requires
-padded-length-requires c κs = Rooms.few-slots (c .before .before .before .before .before .before .before .before .before .before .before .args .bytes .now) _ _ _ _ _ (c .before .before .before .before .before .before .before .before .read-header .ensures) (c .before .before .before .before .before .before .if1 .left)
+padded-length-requires c κs = Rooms.few-slots (c .before .before .before .before .before .before .before .before .read-header .ensures) (c .before .before .before .before .before .before .if1 .left)
 
 mul-end : tie.Need-mul-end
 mul-end c =
-    let few = Rooms.few-slots (c .before .before .before .before .before .before .before .before .before .before .before .before .args .bytes .now) _ _ _ _ _ (c .before .before .before .before .before .before .before .before .before .read-header .ensures) (c .before .before .before .before .before .before .before .if1 .left) in
+    let few = Rooms.few-slots (c .before .before .before .before .before .before .before .before .before .read-header .ensures) (c .before .before .before .before .before .before .before .if1 .left) in
     omega (arith, c .padded-length .ensures, padded-bound few)
 
 slice-reshare-prefix-is-valid : tie.Need-slice-reshare-prefix-is-valid
-slice-reshare-prefix-is-valid c = Rooms.in-nodes (c .before .before .before .before .before .before .before .before .before .before .before .before .args .bytes .now) _ _ _ _ _ (c .before .before .before .before .before .before .before .before .before .read-header .ensures) (c .before .before .before .before .before .before .before .if1 .left) _ _ _ _ (c .before .before .before .before .read-terms .ensures)
+slice-reshare-prefix-is-valid c = Rooms.in-nodes (c .before .before .before .before .before .before .before .before .before .read-header .ensures) (c .before .before .before .before .before .before .before .if1 .left) (c .before .before .before .before .read-terms .ensures)
 
 slice-aggregate-is-valid : tie.Need-slice-aggregate-is-valid
 slice-aggregate-is-valid c =
-    sym (ap length (Rooms.nodes-front (c .before .before .before .before .before .before .before .before .before .before .before .before .before .args .bytes .now) _ _ _ _ _ (c .before .before .before .before .before .before .before .before .before .before .read-header .ensures) (c .before .before .before .before .before .before .before .before .if1 .left) _ _ _ _ (c .before .before .before .before .before .read-terms .ensures))
+    sym (ap length (Rooms.nodes-front (c .before .before .before .before .before .before .before .before .before .before .read-header .ensures) (c .before .before .before .before .before .before .before .before .if1 .left) (c .before .before .before .before .before .read-terms .ensures))
     ∙ nodes-long _ _)
 
 slice-reshare-prefix-is-valid-2 : tie.Need-slice-reshare-prefix-is-valid-2
-slice-reshare-prefix-is-valid-2 c = Rooms.in-values (c .before .before .before .before .before .before .before .before .before .before .before .before .before .args .bytes .now) _ _ _ _ _ (c .before .before .before .before .before .before .before .before .before .before .read-header .ensures) (c .before .before .before .before .before .before .before .before .if1 .left) _ _ _ _ (c .before .before .before .before .before .read-terms .ensures)
+slice-reshare-prefix-is-valid-2 c = Rooms.in-values (c .before .before .before .before .before .before .before .before .before .before .read-header .ensures) (c .before .before .before .before .before .before .before .before .if1 .left) (c .before .before .before .before .before .read-terms .ensures)
 
 slice-aggregate-is-valid-2 : tie.Need-slice-aggregate-is-valid-2
 slice-aggregate-is-valid-2 c =
-    sym (ap length (Rooms.values-front (c .before .before .before .before .before .before .before .before .before .before .before .before .before .before .args .bytes .now) _ _ _ _ _ (c .before .before .before .before .before .before .before .before .before .before .before .read-header .ensures) (c .before .before .before .before .before .before .before .before .before .if1 .left) _ _ _ _ (c .before .before .before .before .before .before .read-terms .ensures))
+    sym (ap length (Rooms.values-front (c .before .before .before .before .before .before .before .before .before .before .before .read-header .ensures) (c .before .before .before .before .before .before .before .before .before .if1 .left) (c .before .before .before .before .before .before .read-terms .ensures))
     ∙ values-long _ _)
 
 is-valid-requires : tie.Need-is-valid-requires
 is-valid-requires c κs =
     let bytes = c .before .before .before .before .before .before .before .before .before .before .before .before .before .before .args .bytes .now in
-    ap length (Rooms.nodes-front bytes _ _ _ _ _ (c .before .before .before .before .before .before .before .before .before .before .before .read-header .ensures) (c .before .before .before .before .before .before .before .before .before .if1 .left) _ _ _ _ (c .before .before .before .before .before .before .read-terms .ensures))
+    ap length (Rooms.nodes-front (c .before .before .before .before .before .before .before .before .before .before .before .read-header .ensures) (c .before .before .before .before .before .before .before .before .before .if1 .left) (c .before .before .before .before .before .before .read-terms .ensures))
     ∙ nodes-long _ _
-    ∙ sym (ap length (Rooms.values-front bytes _ _ _ _ _ (c .before .before .before .before .before .before .before .before .before .before .before .read-header .ensures) (c .before .before .before .before .before .before .before .before .before .if1 .left) _ _ _ _ (c .before .before .before .before .before .before .read-terms .ensures)) ∙ values-long _ _)
+    ∙ sym (ap length (Rooms.values-front (c .before .before .before .before .before .before .before .before .before .before .before .read-header .ensures) (c .before .before .before .before .before .before .before .before .before .if1 .left) (c .before .before .before .before .before .before .read-terms .ensures)) ∙ values-long _ _)
 
 same-length : tie.Need-same-length
 same-length c = search needs
@@ -68,8 +68,8 @@ returns-2 c =
     let header = c .before .before .before .before .before .before .before .before .before .before .before .before .before .read-header .ensures in
     let right = c .before .before .before .before .before .before .before .before .before .before .before .if1 .left in
     let terms = c .before .before .before .before .before .before .before .before .read-terms .ensures in
-    let test = c .before .is-valid .ensures ∙ Rooms.tested bytes _ _ _ _ _ header right _ _ _ _ terms _ (ap (λ (m : ℕ). 2 * m) (c .before .before .before .before .padded-length .ensures)) in
-    Rooms.terms-right bytes _ _ _ _ _ header right _ _ _ _ terms (sym test ∙ c .if2 .taken)
+    let test = c .before .is-valid .ensures ∙ Rooms.tested header right terms _ (ap (λ (m : ℕ). 2 * m) (c .before .before .before .before .padded-length .ensures)) in
+    Rooms.terms-right header right terms (sym test ∙ c .if2 .taken)
 
 refused-requires : tie.Need-refused-requires
 refused-requires c κs = search needs
@@ -86,9 +86,8 @@ returns-3 c =
     let header = c .before .before .before .before .before .before .before .before .before .before .before .before .before .before .read-header .ensures in
     let right = c .before .before .before .before .before .before .before .before .before .before .before .before .if1 .left in
     let terms = c .before .before .before .before .before .before .before .before .before .read-terms .ensures in
-    let r = c .refused .ensures in
-    let test = c .before .before .is-valid .ensures ∙ Rooms.tested bytes _ _ _ _ _ header right _ _ _ _ terms _ (ap (λ (m : ℕ). 2 * m) (c .before .before .before .before .before .padded-length .ensures)) in
-    rw (r .0, r .1, r .2, r .3, r .4) (Rooms.terms-wrong bytes _ _ _ _ _ header right _ _ _ _ terms (sym test ∙ c .before .if2 .left))
+    let test = c .before .before .is-valid .ensures ∙ Rooms.tested header right terms _ (ap (λ (m : ℕ). 2 * m) (c .before .before .before .before .before .padded-length .ensures)) in
+    rw (c .refused .ensures) (Rooms.terms-wrong header right terms (sym test ∙ c .before .if2 .left))
 
 pub read-into-room-spec : {M : Type 1} → statement M
 read-into-room-spec =

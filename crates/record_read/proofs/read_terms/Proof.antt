@@ -3,14 +3,14 @@ use mathlib.Core.Path.{_∙_}
 use Prim.Native.Nat.{_+_, _*_, _-_, _≤_, _<_, _^_}
 use native.Mathlib.Omega.{arith}
 use lib.IntN.{pos}
-use lib.ListN.{length, drop}
+use lib.ListN.{length}
 use borrow.Author.Needs.{needs}
 use mir.Syntax.{w16}
 use mir.Val.{SFits}
 use mir.Facts.{toZ-ofZ}
 use Rattle.limits.proofs.Laying.{none-laid, one-more-laid, all-laid}
-use Rattle.bits.specs.Bits.{bitsOf}
-use Rattle.bits.specs.Inner.{Within}
+use Rattle.record.specs.Layout.{layoutWidth}
+use Rattle.record.specs.Record.{termLayout}
 use Rattle.record_read.proofs.Terms.{nodes-long, values-long, node-field, value-field, ReadSoFar}
 use Rattle.record_read.proofs.read_terms.Statement.{statement}
 use Rattle.record_read.proofs.read_terms.Tie as tie
@@ -30,19 +30,13 @@ loop-holds c =
     record { place-is = c .before .places .ensures .of-terms; nodes-laid = none-laid _ (a .nodes .now); values-laid = none-laid _ (a .values .now) }
 
 -- the term's bits lie within the record
-within-record : (c : tie.In-loop Inv-loop μ-loop) → c .before .loop .place .at + 26 ≤ 8 * length (c .before .before .before .before .before .before .args .bytes .now)
+within-record : (c : tie.In-loop Inv-loop μ-loop) → c .before .loop .place .at + layoutWidth termLayout ≤ 8 * length (c .before .before .before .before .before .before .args .bytes .now)
 within-record c =
     let pre = c .before .before .before .before .before .before .pre in
     omega (arith, c .before .loop .inv .place-is, c .loop-test .taken, pre .framed .long)
 
-inside-word : (c : tie.In-loop Inv-loop μ-loop) → c .before .loop .place .at + 26 < 2 ^ 64
+inside-word : (c : tie.In-loop Inv-loop μ-loop) → c .before .loop .place .at + layoutWidth termLayout < 2 ^ 64
 inside-word c = omega (arith, c .before .loop .inv .place-is, c .loop-test .taken, c .before .before .before .before .before .before .pre .framed .few)
-
-node-within : (c : tie.In-loop Inv-loop μ-loop) → Within (c .before .before .before .before .before .before .args .bytes .now) (c .before .loop .place .at) 10
-node-within c = record { narrow = omega arith; inside = omega (arith, within-record c) }
-
-value-within : (c : tie.In-loop Inv-loop μ-loop) → Within (c .before .before .before .before .before .before .args .bytes .now) (c .before .loop .place .at + 10) 16
-value-within c = record { narrow = omega arith; inside = omega (arith, within-record c) }
 
 node-in-room : (c : tie.In-loop Inv-loop μ-loop) → c .before .loop .i < length (c .before .loop .nodes)
 node-in-room c = omega (arith, c .loop-test .taken, c .before .before .before .before .before .before .pre .in-nodes, c .before .loop .inv .nodes-laid .same-length)
@@ -54,7 +48,7 @@ after-requires : tie.Need-after-requires Inv-loop μ-loop
 after-requires c κs = omega (arith, inside-word c)
 
 read-requires : tie.Need-read-requires Inv-loop μ-loop
-read-requires c κs = node-within (c .before)
+read-requires c κs = record { narrow = omega arith; inside = omega (arith, within-record (c .before)) }
 
 mul-nodes : tie.Need-mul-nodes Inv-loop μ-loop
 mul-nodes c = omega (arith, c .before .before .loop-test .taken, c .before .before .before .before .before .before .before .before .pre .framed .few)
@@ -63,7 +57,7 @@ slice-write-nodes : tie.Need-slice-write-nodes Inv-loop μ-loop
 slice-write-nodes c = node-in-room (c .before .before)
 
 read-signed-requires : tie.Need-read-signed-requires Inv-loop μ-loop
-read-signed-requires c κs = rw (c .before .after .ensures) (value-within (c .before .before))
+read-signed-requires c κs = record { narrow = omega arith; inside = omega (arith, c .before .after .ensures, within-record (c .before .before)) }
 
 mul-t11 : tie.Need-mul-t11 Inv-loop μ-loop
 mul-t11 c = omega (arith, c .before .before .before .loop-test .taken, c .before .before .before .before .before .before .before .before .before .pre .framed .few)
@@ -88,7 +82,6 @@ loop-again c =
     let bytes = start .args .bytes .now in
     let count = start .args .count in
     let more = turn .loop-test .taken in
-    let field = drop 55 (bitsOf bytes) in
     let fits : SFits w16 (c .before .read-signed .result) = search needs in
     let node-is = rw (loop .inv .place-is) at (c .before .before .read .ensures) ∙ node-field bytes count (loop .i) more in
     let value-is = rw (c .before .before .before .after .ensures, loop .inv .place-is) at (c .before .read-signed .ensures) ∙ value-field bytes count (loop .i) more in
@@ -96,11 +89,11 @@ loop-again c =
       place-is = omega (arith, c .after2 .ensures, c .before .before .before .after .ensures, loop .inv .place-is);
       nodes-laid =
           rw node-is
-          (one-more-laid _ (start .args .nodes .now) (loop .nodes) (loop .i) 0 (rw (nodes-long count field) (start .pre .in-nodes)) (loop .inv .nodes-laid) (rw (nodes-long count field) more));
+          (one-more-laid _ (start .args .nodes .now) (loop .nodes) (loop .i) 0 (rw (nodes-long count bytes) (start .pre .in-nodes)) (loop .inv .nodes-laid) (rw (nodes-long count bytes) more));
       values-laid =
           rw (toZ-ofZ fits, value-is)
-          (one-more-laid _ (start .args .values .now) (loop .values) (loop .i) (pos 0) (rw (values-long count field) (start .pre .in-values)) (loop .inv .values-laid)
-          (rw (values-long count field) more));
+          (one-more-laid _ (start .args .values .now) (loop .values) (loop .i) (pos 0) (rw (values-long count bytes) (start .pre .in-values)) (loop .inv .values-laid)
+          (rw (values-long count bytes) more));
     }
 
 same-length : tie.Need-same-length Inv-loop μ-loop
@@ -113,10 +106,9 @@ returns : tie.Need-returns Inv-loop μ-loop
 returns c =
     let a = c .before .before .before .before .before .before .args in
     let loop = c .before .loop in
-    let field = drop 55 (bitsOf (a .bytes .now)) in
     record {
-      nodes-are = all-laid _ (a .nodes .now) (loop .nodes) (loop .i) (loop .inv .nodes-laid) (rw (nodes-long (a .count) field) (c .loop-test .left));
-      values-are = all-laid _ (a .values .now) (loop .values) (loop .i) (loop .inv .values-laid) (rw (values-long (a .count) field) (c .loop-test .left));
+      nodes-are = all-laid _ (a .nodes .now) (loop .nodes) (loop .i) (loop .inv .nodes-laid) (rw (nodes-long (a .count) (a .bytes .now)) (c .loop-test .left));
+      values-are = all-laid _ (a .values .now) (loop .values) (loop .i) (loop .inv .values-laid) (rw (values-long (a .count) (a .bytes .now)) (c .loop-test .left));
     }
 
 pub read-terms-spec : {M : Type 1} → statement M

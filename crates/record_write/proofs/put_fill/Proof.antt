@@ -8,7 +8,8 @@ use lib.Pow.{pow-pos}
 use Rattle.bits.specs.Bits.{bits, bitsOf, replacedAt}
 use Rattle.bits.proofs.Fields.{length-bits}
 use Rattle.bits.proofs.Bytes.{length-bits-of}
-use Rattle.record.proofs.Pieces.{bits-of-zero}
+use Rattle.record.specs.Record.{termsEnd}
+use Rattle.record.proofs.Fill.{bits-of-zero}
 use Rattle.record_write.specs.Inner.{filled}
 use borrow.Author.Needs.{needs}
 use Rattle.record_write.proofs.put_fill.Statement.{statement}
@@ -41,7 +42,7 @@ returns : tie.Need-returns
 returns c =
     let start = c .before .before .before .before .before .before .before in
     let placed = c .before .before .before .before .before .after-terms .ensures in
-    rw placed at (c .before .before .write .ensures) ∙ zeros-to-end (start .args .bytes .now) (55 + 26 * start .args .count) (search needs)
+    rw placed at (c .before .before .write .ensures) ∙ zeros-to-end (start .args .bytes .now) (termsEnd (start .args .count)) (search needs)
 
 pub put-fill-spec : {M : Type 1} → statement M
 put-fill-spec =

@@ -1,29 +1,16 @@
--- `record_write::put_term` meets its contract: the node and the value behind it are one field of 26 bits.
-use mathlib.Core.Path.{_≡_, ap, _∙_}
-use mathlib.Core.List.{List}
-use Prim.Native.Nat.{ℕ, _+_, _≤_}
+-- `record_write::put_term` meets its contract: the node and the value behind it are what a term's layout writes.
+use mathlib.Core.Path.{_∙_}
 use native.Mathlib.Omega.{arith}
-use lib.IntN.{ℤ}
-use lib.ListN.{length}
 use mir.Facts.{toZ-ofZ}
-use Rattle.bits.specs.Bits.{bits, bitsOf, replacedAt}
-use Rattle.bits.specs.Signed.{complement}
-use Rattle.bits.proofs.Fields.{length-bits}
+use Rattle.bits.specs.Bits.{bitsOf}
 use Rattle.bits.proofs.Bytes.{length-bits-of}
 use Rattle.bits.proofs.Complement.{signed-bits}
-use Rattle.record.specs.Record.{termBits}
-use Rattle.bits.proofs.Replacing.{replaced-both}
+use Rattle.histogram.specs.declared.Term.{Term}
+use Rattle.record.specs.Record.{termLayout}
+use Rattle.record.proofs.Layouts.{rowsReplaced, rows-replaced}
 use borrow.Author.Needs.{needs}
 use Rattle.record_write.proofs.put_term.Statement.{statement}
 use Rattle.record_write.proofs.put_term.Tie as tie
-
-node-and-value : (place next node : ℕ) (value : ℤ) (before one two : List ℕ) → place ≤ length before → next ≡ place + 10
-    → one ≡ replacedAt place (bits 10 node) before → two ≡ replacedAt next (bits 16 (complement 16 value)) one
-    → two ≡ replacedAt place (termBits (record { node = node; value = value })) before
-node-and-value place next node value before one two inside next-is first second =
-    second
-    ∙ ap (replacedAt next (bits 16 (complement 16 value))) first
-    ∙ replaced-both place next (bits 10 node) (bits 16 (complement 16 value)) before inside (omega (arith, length-bits 10 node))
 
 after-requires : tie.Need-after-requires
 after-requires c κs = search needs
@@ -46,11 +33,16 @@ returns : tie.Need-returns
 returns c =
     let start = c .before .before .before .before .before .before .before .before .before .before .before in
     let a = start .args in
+    let term : Term = record { node = a .node; value = a .value } in
+    let before = bitsOf (a .bytes .now) in
+    let next = c .before .before .before .before .before .before .before .before .before .after .ensures in
+    let node = c .before .before .before .before .before .before .before .write .ensures in
+    let value = rw (toZ-ofZ (start .fits .value), next, node) at (c .before .before .before .write-signed .ensures) in
     record {
-      next-is = omega (arith, c .after2 .ensures, c .before .before .before .before .before .before .before .before .before .after .ensures);
+      next-is = omega (arith, c .after2 .ensures, next);
       bits-are =
-          node-and-value (a .place .at) _ (a .node) (a .value) (bitsOf (a .bytes .now)) _ _ (omega (arith, length-bits-of (a .bytes .now), start .pre .room)) (c .before .before .before .before .before .before .before .before .before .after .ensures)
-          (c .before .before .before .before .before .before .before .write .ensures) (rw (toZ-ofZ (start .fits .value)) at (c .before .before .before .write-signed .ensures));
+          _∙_ {b = rowsReplaced term termLayout (a .place .at) before} value
+          (rows-replaced term termLayout (a .place .at) before (omega (arith, length-bits-of (a .bytes .now), start .pre .room)));
     }
 
 pub put-term-spec : {M : Type 1} → statement M

@@ -15,7 +15,8 @@ use Rattle.histogram.specs.declared.Term.{Term}
 use Rattle.histogram.specs.Terms.{paired}
 use Rattle.limits.proofs.Signed.{narrower, narrower-fits}
 use Rattle.record.specs.Record.{recordBits, recordLength, recordBytes}
-use Rattle.record.specs.Answers.{packingRefusal, RecordWritten}
+use Rattle.record.specs.Answers.{packingRefusal}
+use Rattle.record_write.specs.Writing.{RecordWritten}
 use Rattle.histogram.proofs.Paired.{length-paired}
 use Rattle.histogram.proofs.Ascent.{node-below}
 use Rattle.record_write.proofs.Refusals.{Accepted, accepted}
@@ -24,18 +25,18 @@ use Rattle.record_write.proofs.write_record.Statement.{statement}
 use Rattle.record_write.proofs.write_record.Tie as tie
 
 module _ (n : ℕ) (band rest : ℤ) (terms : List Term) (before : List ℕ) where
-  turned-away : (refusal : ℕ) → refusal ≡ packingRefusal n band rest terms → 0 < refusal → RecordWritten n band rest terms refusal 0 before before
+  turned-away : (refusal : ℕ) → refusal ≡ packingRefusal n band rest terms → 0 < refusal → RecordWritten n band rest terms (record { refusal = refusal; count = 0 }) before before
   turned-away refusal is some = record {
     refusal-is = sym (rw (← is) (first-counts refusal _ some));
     count-is = sym (granted-nothing refusal _ 0 some);
     destination-is = ap (λ (written : List ℕ). laid written before) (sym (granted-nothing refusal _ [] some));
   }
 
-  too-short : packingRefusal n band rest terms ≡ 0 → length before < recordLength (length terms) → RecordWritten n band rest terms 6 0 before before
+  too-short : packingRefusal n band rest terms ≡ 0 → length before < recordLength (length terms) → RecordWritten n band rest terms (record { refusal = 6; count = 0 }) before before
   too-short right short = record { refusal-is = rw (right, lt-ltb (length before) (recordLength (length terms)) short); count-is = refl; destination-is = refl }
 
   record-over : (count : ℕ) (front : List ℕ) → packingRefusal n band rest terms ≡ 0 → count ≡ recordLength (length terms) → count ≤ length before
-      → front ≡ recordBytes n (natAbs band) rest terms → RecordWritten n band rest terms 0 count before (front ++ drop count before)
+      → front ≡ recordBytes n (natAbs band) rest terms → RecordWritten n band rest terms (record { refusal = 0; count = count }) before (front ++ drop count before)
   record-over count front right count-is fits front-is =
       let long : length (recordBytes n (natAbs band) rest terms) ≡ recordLength (length terms) = length-packed (recordLength (length terms)) (recordBits n (natAbs band) rest terms) in
       record {

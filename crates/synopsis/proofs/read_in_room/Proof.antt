@@ -19,7 +19,7 @@ for-places-requires c κs = search needs
 returns : tie.Need-returns
 returns c =
     let a = c .before .before .before .before .before .before .before .args in
-    rw (c .for-places .ensures) (read-in-room (a .bytes .now) (a .places) _ _ _ _ _ (c .before .before .before .read-into-room .ensures))
+    rw (c .for-places .ensures) (read-in-room (a .places) (c .before .before .before .read-into-room .ensures))
 
 pub read-in-room-spec : {M : Type 1} → statement M
 read-in-room-spec =

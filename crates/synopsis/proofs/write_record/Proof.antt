@@ -1,7 +1,7 @@
 -- `synopsis::write_record` meets its contract: a walk of its MIR, by hand. `take_apart` has the terms, and `write_record_of_parts`, which is covered, has their parts.
 use Rattle.synopsis.proofs.Walk.{_≡_, refl, ℕ, List, [], _∷_, length, URA, named, w64, w32, Val, vint, ofZ, SProp, ent, via, sep, id⊢, fst∗, emp, Lft, GName, Share, ftrue, flft, Fml, Memory, Routine, Heap, Calls, Loops, WpFn, Tables, Atoms, sem, Fun, givenOf, tables, tablesOf, Given, ‵, _⊛_, ⋆, _$_, _∵_, !, qed, by, move, keep, split, join, fsplit, fjoin, suffices, frame, done, drop, raw, use2, whole, sub, look-in, agg, look, init, forget, stop, hop, fld, from, load, assigns, returns, enter, alloc1, alloc0, params1, pass1, pass0, free1, free0, and-then, no-more, addr, land, WpFn-mono, FmC, fmOf, owns, Is, uint-vals, uint-tells, uint-makes, RefT, now, sliceVal, ShrSlice, Room, slice-vals, shr-slice-tells, MutSlice, mut-slice-tells, finally, plain, usize, u8, i32, nothing, owned, Vals, onEntry, Meets, tripleOf, entered, cited, says, Stays, stay-none-slice, stay-none, walkOf, Walks, ends-at, walked, goes-none-slice, goes-none, walk-meets, gave-slice, goes-gave-slice, yes, ℤ, ofZ-fits, sint-vals, sint-tells, sint-makes, Contract, Triple}
 use denote.Struct.Laws as LL
-use Rattle.record.specs.Answers.{RecordWritten}
+use Rattle.record_write.specs.Writing.{RecordWritten}
 use Rattle.record_write.specs.declared.WriteAnswer.{WriteAnswer}
 use Rattle.record_write.proofs.WriteAnswer as Q
 use Rattle.record_write.proofs.WriteAnswer.Laws as Q′
@@ -70,7 +70,7 @@ module _ {M : Type 1} (𝓤 : URA M) (H : Heap 𝓤) (A : Atoms 𝓤) (W : Given
 
   -- what is said of a list of terms
   abbrev Said : List Term → WriteAnswer → List ℕ → Type 0
-  Said terms a after = RecordWritten slots band rest terms (a .refusal) (a .count) zs after
+  Said terms a after = RecordWritten slots band rest terms a zs after
 
   exits : (a : WriteAnswer) (w : Val) → (zs′ : List ℕ) → length zs′ ≡ length zs → Is usize slots (vint w64 slots ∷ []) → Is i32 band (vint w32 (ofZ w32 band) ∷ []) → Is i32 rest (vint w32 (ofZ w32 rest) ∷ []) → Said ys a zs′ → ent 𝓤 (⋆ 𝓤 H A (‵ (flft κ₁ q₁) ∷ ‵ (finally u8 γ₁ zs′) ∷ ‵ (Q.the-row .own a (w ∷ [])) ∷ ‵ (flft κ q) ∷ ‵ OwnT ∷ [])) (Post w)
   exits a w zs′ lz is-slots is-band is-rest said =
@@ -105,7 +105,7 @@ module _ {M : Type 1} (𝓤 : URA M) (H : Heap 𝓤) (A : Atoms 𝓤) (W : Given
         move ! (1 ∷ []) $ lasting ! 4 u8 γ₁ (ws .1 .1 .1 .1 .0) zs (λ lz. move ! (1 ∷ []) $ split ! $ move ! (1 ∷ []) $ drop ! $ land ! (from ! (stop !)) (init ! 21 refl (LL.lawful Q.the-type Q′.the-laws 𝓤 H A W .typed a _ isA .0)) $
         returns ! (look ! 21 refl) $ forget ! 21 refl $ forget ! 19 refl $ forget ! 17 refl $ forget ! 15 refl $ forget ! 13 refl $ forget ! 11 refl $ forget ! 9 refl $ forget ! 7 refl $ forget ! 5 refl $
         move ! (21 ∷ 22 ∷ []) $ free1 ! $ move ! (19 ∷ 20 ∷ []) $ free1 ! $ move ! (17 ∷ 18 ∷ []) $ free1 ! $ move ! (15 ∷ 16 ∷ []) $ free1 ! $ move ! (13 ∷ 14 ∷ []) $ free1 ! $ move ! (11 ∷ 12 ∷ []) $ free1 ! $ move ! (9 ∷ 10 ∷ []) $ free1 ! $ move ! (7 ∷ 8 ∷ []) $ free1 ! $ move ! (5 ∷ 6 ∷ []) $ free1 ! $ free0 ! $
-        by ! (exits a w (ws .1 .1 .1 .1 .0) lz is-slots is-band is-rest (record-written ys r of-terms slots band rest (a .refusal) (a .count) zs (ws .1 .1 .1 .1 .0) said))))))))))))))
+        by ! (exits a w (ws .1 .1 .1 .1 .0) lz is-slots is-band is-rest (record-written ys r of-terms slots band rest a zs (ws .1 .1 .1 .1 .0) said))))))))))))))
 
 module _ {M : Type 1} (𝓤 : URA M) (H : Heap 𝓤) (A : Atoms 𝓤) (W : Given 𝓤 H A) (mem : Memory → SProp 𝓤) (run : Routine → Fun 𝓤) (𝓣 : Tables 𝓤 H) (known-take : Triple 𝓤 (𝓣 .C #synopsis·take-apart) (Take 𝓤 H A mem run)) (known-work : Triple 𝓤 (𝓣 .C #synopsis·write-record-of-parts) (Work 𝓤 H A mem run)) where
   walks : Walks 𝓤 H A f.ended stayed (WpFn 𝓤 H (𝓣 .C) (𝓣 .Λ) code.function) (f.clauses 𝓤 H A mem run)

@@ -16,12 +16,12 @@ write-record-requires c κs = search needs
 array-share-prefix-bytes : tie.Need-array-share-prefix-bytes
 array-share-prefix-bytes c =
     let written = c .before .write-record in
-    omega (arith, bytes-within _ _ _ _ _ _ _ _ (written .ensures), written .kept)
+    omega (arith, bytes-within (written .ensures), written .kept)
 
 slice-aggregate-check-record : tie.Need-slice-aggregate-check-record
 slice-aggregate-check-record c =
     let written = c .before .before .write-record in
-    sym (length-take-le _ _ (omega (arith, bytes-within _ _ _ _ _ _ _ _ (written .ensures), written .kept)))
+    sym (length-take-le _ _ (omega (arith, bytes-within (written .ensures), written .kept)))
 
 check-record-requires : tie.Need-check-record-requires
 check-record-requires c κs = search needs

@@ -108,7 +108,7 @@ module _ {M : Type 1} (𝓤 : URA M) (H : Heap 𝓤) (A : Atoms 𝓤) (W : Given
   to-work α l δ = (((κ, (α ∷ [], tt)), (q, (fullShare, tt)), tt, given-work l δ, (vI ∷ [], (sliceVal (l, 0) (length front) ∷ [], tt))), tt)
 
   abbrev Said : HeaderAnswer → List Term → Type 0
-  Said a terms = TermsRead bytes (a .refusal) (a .slots) (a .band) (a .rest) (a .count) front terms
+  Said a terms = TermsRead bytes a front terms
 
   goes-work : (α l : ℕ) (δ : GName) → ent 𝓤 (sep 𝓤 (sep 𝓤 (A .lft κ q) (A .lft (α ∷ []) fullShare)) (sep 𝓤 (sem 𝓤 H A OwnI) (sem 𝓤 H A (OwnT α l δ)))) (Work 𝓤 H A mem run .pre (to-work α l δ))
   goes-work α l δ =

@@ -5,8 +5,8 @@ use lib.ListN.{take, drop as rest-of}
 use lib.Seq.{length-take-le}
 use denote.Struct.Laws as LL
 use borrow.Table.Elements.{at as offset}
-use Rattle.record.specs.Answers.{RecordWritten}
 use Rattle.record_write.specs.declared.WriteAnswer.{WriteAnswer}
+use Rattle.record_write.specs.Writing.{RecordWritten}
 use Rattle.record_write.proofs.WriteAnswer as Q
 use Rattle.record_write.proofs.WriteAnswer.Laws as Q′
 use Rattle.histogram.specs.declared.Term.{Term}
@@ -114,7 +114,7 @@ module _ {M : Type 1} (𝓤 : URA M) (H : Heap 𝓤) (A : Atoms 𝓤) (W : Given
   to-work α l δ = (((α ∷ [], (κ, tt)), (fullShare, (q, tt)), tt, given-work l δ, (vSlots ∷ [], (vBand ∷ [], (vRest ∷ [], (sliceVal (l, 0) (length front) ∷ [], (vO ∷ [], tt)))))), tt)
 
   abbrev Said : WriteAnswer → List ℕ → Type 0
-  Said a after = RecordWritten slots band rest front (a .refusal) (a .count) held after
+  Said a after = RecordWritten slots band rest front a held after
 
   goes-work : (α l : ℕ) (δ : GName) → Right → ent 𝓤 (sep 𝓤 (sep 𝓤 (A .lft (α ∷ []) fullShare) (A .lft κ q)) (sep 𝓤 (sem 𝓤 H A (OwnT α l δ)) (sem 𝓤 H A OwnO))) (Work 𝓤 H A mem run .pre (to-work α l δ))
   goes-work α l δ right =
