@@ -2,7 +2,7 @@
 use mathlib.Core.Path.{_≡_, refl}
 use mathlib.Core.Bool.{not}
 use mathlib.Core.List.{List, [], _∷_}
-use Prim.Native.Nat.{ℕ, zero, suc, _<_, _≤_}
+use Prim.Native.Nat.{ℕ, zero, suc, _+_, _<_, _≤_}
 use native.Mathlib.Omega.{arith}
 use lib.Dec.{T, ltb, ltb→lt, lt→ltb, nltb→le}
 use lib.IntN.{ℤ, natAbs}
@@ -93,3 +93,8 @@ ascends (node ∷ nodes) (value ∷ values) same valid = record { each = pairwis
     pairwise after p zero less within = absurd (omega arith)
     pairwise after zero (suc q) less within = node-above nodes values (omega arith) (rest-valid valid) q (omega arith)
     pairwise after (suc p) (suc q) less within = after .each p q (omega arith) (omega arith)
+
+-- strictly ascending nodes between two bounds are few
+pub valid-few : {last end : ℕ} (terms : List Term) → last < end → ValidFrom last end terms → last + length terms < end
+valid-few [] below proper = omega arith
+valid-few (term ∷ terms) below proper = omega (arith, first-above proper, valid-few terms (first-below proper) (rest-valid proper))

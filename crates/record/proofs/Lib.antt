@@ -4,4 +4,3 @@ pub mod Bounds
 pub mod Fill
 pub mod RoundTrips
 pub mod Table
-pub mod Tests

@@ -12,7 +12,9 @@ use lib.Seq.{drop-at, drop-drop}
 use borrow.Author.Tests.{le-leb, le-ltb, eq-eqb, eqb-true, leb-true, ltb-false, not-false}
 use Rattle.limits.specs.Limits.{beyond, outsideBand, outsideSlots}
 use Rattle.limits.specs.Answers.{_when_, _then_}
+use Rattle.limits.proofs.Beyond.{band-accepted}
 use Rattle.limits.proofs.Refusals.{none-of-two, passed, passed-last, slots-within}
+use Rattle.limits.proofs.Tests.{both-hold}
 use Rattle.bits.specs.Bits.{numberOf, bitsOf}
 use Rattle.bits.specs.Signed.{signedOf}
 use Rattle.bits.specs.Inner.{Below, SignedBits}
@@ -23,12 +25,11 @@ use Rattle.bits.proofs.Complement.{complement-reads-back, complement-fits}
 use Rattle.histogram.specs.declared.Term.{Term}
 use Rattle.histogram.specs.Tree.{padded}
 use Rattle.histogram.specs.Terms.{valid}
-use Rattle.histogram.proofs.Ascent.{ValidFrom, first-above, first-below, first-within, rest-valid}
+use Rattle.histogram.proofs.Ascent.{ValidFrom, first-above, first-below, first-within, rest-valid, valid-few}
 use Rattle.histogram.proofs.Powers.{height-reaches, padded-bound}
 use Rattle.record.specs.Layout.{layoutWidth, layoutNumbers, held}
 use Rattle.record.specs.Record.{Header, headerLayout, termLayout, headerBits, termBits, termsBits, recordBits, termsEnd, recordLength, recordBytes, headerNumbers, versionIn, slotsIn, bandIn, restIn, countIn, termIn, termsFrom, termsIn, fillIn, wellFormed}
 use Rattle.record.specs.Answers.{packingRefusal, headerRefusal, recordRefusal}
-use Rattle.record.proofs.Tests.{both-left, both-right}
 use Rattle.record.proofs.Fill.{zeros, number-of-zeros}
 use Rattle.record.proofs.Layouts.{no-row, row, signed-row, length-layout, layout-below, behind-layout, layout-reads-back, layout-is-written}
 use Rattle.record.proofs.Entries.{length-entries, entries-below, length-from, ReadsBack, AllReadBack, none-left, and-more, entries-read-back, entries-are-written}
@@ -73,12 +74,13 @@ module _ (bytes : List ℕ) where
       let version-one : Bool = eqb (versionIn bytes) 1 in
       let byte-count : Bool = eqb (length bytes) (recordLength (countIn bytes)) in
       let fill-zero : Bool = eqb (fillIn bytes) 0 in
-      let after-length = both-right long-enough (version-one && (byte-count && fill-zero)) right in
-      let after-version = both-right version-one (byte-count && fill-zero) after-length in (
-        leb-true 7 (length bytes) (both-left long-enough (version-one && (byte-count && fill-zero)) right),
-        eqb-true (versionIn bytes) 1 (both-left version-one (byte-count && fill-zero) after-length),
-        eqb-true (length bytes) (recordLength (countIn bytes)) (both-left byte-count fill-zero after-version),
-        eqb-true (fillIn bytes) 0 (both-right byte-count fill-zero after-version),
+      let first = both-hold long-enough (version-one && (byte-count && fill-zero)) right in
+      let second = both-hold version-one (byte-count && fill-zero) (first .1) in
+      let last = both-hold byte-count fill-zero (second .1) in (
+        leb-true 7 (length bytes) (first .0),
+        eqb-true (versionIn bytes) 1 (second .0),
+        eqb-true (length bytes) (recordLength (countIn bytes)) (last .0),
+        eqb-true (fillIn bytes) 0 (last .1),
       )
 
   pub well-formed-is-written : Below 256 bytes → wellFormed bytes ≡ true → bytes ≡ recordBytes (slotsIn bytes) (bandIn bytes) (restIn bytes) (termsIn bytes)
@@ -167,14 +169,6 @@ valid-fits (term ∷ terms) small proper =
     let node-fits : term .node < 2 ^ 10 = omega (arith, first-below proper) in
     and-more (term-reads-back term node-fits (within-signed (term .value) (first-within proper))) (valid-fits terms small (rest-valid proper))
 
-pub valid-few : {last end : ℕ} (terms : List Term) → last < end → ValidFrom last end terms → last + length terms < end
-valid-few [] below proper = omega arith
-valid-few (term ∷ terms) below proper = omega (arith, first-above proper, valid-few terms (first-below proper) (rest-valid proper))
-
-pub within-band : (band : ℤ) → outsideBand band ≡ false → natAbs band ≤ 40000
-within-band (pos band) inside = ltb-false 40000 band inside
-within-band (negsuc below) inside = absurd (true≢false inside)
-
 -- "Writing a record and reading it gives the same terms and header"
 pub written-reads-back : (n : ℕ) (band rest : ℤ) (terms : List Term) → packingRefusal n band rest terms ≡ 0
     → (recordRefusal (recordBytes n (natAbs band) rest terms) ≡ 0) × ReadsAs (recordBytes n (natAbs band) rest terms) n (natAbs band) rest terms
@@ -187,7 +181,7 @@ written-reads-back n band rest terms none =
     let proper : ValidFrom 0 (2 * padded n) terms = record { passes = rw is-valid tt } in
     let end-small : 2 * padded n ≤ 1024 = omega (arith, padded-bound (slots .few-slots)) in
     let some-end : 0 < 2 * padded n = omega (arith, height-reaches n, slots .some-slot) in
-    let band-small = within-band band (three .0) in
+    let band-small = band-accepted band (three .0) in
     let back = fields-read-back n (natAbs band) rest terms (omega (arith, slots .few-slots)) (slots .some-slot) (omega arith)
     (within-signed rest (ltb-false 20000 (natAbs rest) (two .0))) (omega (arith, valid-few terms some-end proper)) (valid-fits terms end-small proper) in
     (rw (back .well-formed, back .rest-same, two .0, back .band-same, le-ltb 40000 (natAbs band) band-small, back .slots-same, back .terms-same, is-valid), back)

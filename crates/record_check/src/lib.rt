@@ -48,7 +48,7 @@ pub fn check_record(setpoints: &[i16], bytes: &[u8]) -> CheckAnswer
     ensures { λ r. ⌜ Checked (now (setpoints .entry)) (now (bytes .entry)) (r .refusal) (r .kept) (r .error) (r .slot) ⌝ }
 {
     if limits::is_outside_slots(setpoints.len()) {
-        return refused(4);
+        return refused(limits::SLOTS_BEYOND);
     }
     let mut nodes = [0u16; 1023];
     let mut values = [0i16; 1023];
@@ -57,10 +57,10 @@ pub fn check_record(setpoints: &[i16], bytes: &[u8]) -> CheckAnswer
         return refused(header.refusal);
     }
     if limits::is_any_beyond(setpoints) {
-        return refused(2);
+        return refused(limits::VALUE_BEYOND);
     }
     if header.slots != setpoints.len() {
-        return refused(9);
+        return refused(limits::LENGTH_DIFFERS);
     }
     let count = header.count;
     judge(

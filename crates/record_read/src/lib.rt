@@ -33,7 +33,7 @@ pub fn read_record(bytes: &[u8], nodes: &mut [u16], values: &mut [i16]) -> Heade
     }
     let count = header.count;
     if nodes.len() < count {
-        return refused(6);
+        return refused(limits::OUTPUT_SHORT);
     }
     limits::lay_nodes(&room_of_nodes[..count], nodes);
     limits::lay(&room_of_values[..count], values);
@@ -55,7 +55,7 @@ pub fn read_into_room(bytes: &[u8], nodes: &mut [u16], values: &mut [i16]) -> He
     if is_valid(end, &nodes[..count], &values[..count]) {
         return header;
     }
-    refused(8)
+    refused(limits::TERMS_WRONG)
 }
 
 // The header of a record, with the refusals 7, 2 and 3.
@@ -66,7 +66,7 @@ fn read_header(bytes: &[u8]) -> HeaderAnswer
     if frame.right {
         return read_fields(bytes, frame.count);
     }
-    refused(7)
+    refused(limits::NOT_A_RECORD)
 }
 
 // Whether a record passes row 7, and its count of terms.
@@ -121,11 +121,11 @@ fn read_fields(bytes: &[u8], count: usize) -> HeaderAnswer
     let places = places();
     let rest = places.rest.read_signed(BitPlace::REST, bytes) as i32;
     if limits::is_beyond(limits::VALUE_LIMIT, rest) {
-        return refused(2);
+        return refused(limits::VALUE_BEYOND);
     }
     let band = places.band.read(BitPlace::BAND, bytes) as i32;
     if limits::is_outside_band(band) {
-        return refused(3);
+        return refused(limits::BAND_BEYOND);
     }
     let slots = places.length.read(BitPlace::LENGTH, bytes) as usize + 1;
     HeaderAnswer {

@@ -1,23 +1,23 @@
 -- What follows where a header and terms are not refused: each number fits its field.
-use mathlib.Core.Path.{_≡_, sym, _∙_, subst}
-use mathlib.Core.Bool.{true, false, not}
+use mathlib.Core.Path.{_≡_, sym, _∙_}
+use mathlib.Core.Bool.{true, not}
 use mathlib.Core.List.{List}
 use Prim.Native.Nat.{ℕ, _*_, _≤_, _<_}
 use native.Mathlib.Omega.{arith}
 use lib.Dec.{T}
-use lib.IntN.{ℤ, pos, negsuc, natAbs}
+use lib.IntN.{ℤ, natAbs}
 use lib.ListN.{length}
 use lib.Signed.{nonNeg}
 use borrow.Author.Tests.{ltb-false, not-false}
 use Rattle.limits.specs.Limits.{beyond, outsideBand, outsideSlots}
+use Rattle.limits.proofs.Beyond.{band-accepted, band-not-below}
 use Rattle.limits.proofs.Refusals.{passed, passed-last, SlotsWithin, slots-within}
 use Rattle.histogram.specs.declared.Term.{Term}
 use Rattle.histogram.specs.Tree.{padded}
 use Rattle.histogram.specs.Terms.{valid}
-use Rattle.histogram.proofs.Ascent.{ValidFrom}
+use Rattle.histogram.proofs.Ascent.{ValidFrom, valid-few}
 use Rattle.histogram.proofs.Powers.{height-reaches, padded-bound}
 use Rattle.record.specs.Answers.{packingRefusal}
-use Rattle.record.proofs.RoundTrips.{valid-few, within-band}
 
 pub record Accepted (n : ℕ) (band rest : ℤ) (terms : List Term) : Type 0 where
   pub not-refused : packingRefusal n band rest terms ≡ 0
@@ -29,10 +29,6 @@ pub record Accepted (n : ℕ) (band rest : ℤ) (terms : List Term) : Type 0 whe
   pub end-within : 2 * padded n ≤ 1024
   pub terms-valid : ValidFrom 0 (2 * padded n) terms
   pub few-terms : length terms ≤ 1023
-
-from-zero : (band : ℤ) → outsideBand band ≡ false → T (nonNeg band)
-from-zero (pos band) inside = tt
-from-zero (negsuc below) inside = subst T inside tt
 
 pub accepted : {refusal : ℕ} (n : ℕ) (band rest : ℤ) (terms : List Term) → refusal ≡ packingRefusal n band rest terms → refusal ≤ 0 → Accepted n band rest terms
 accepted {refusal} n band rest terms answer zero-at-most =
@@ -49,8 +45,8 @@ accepted {refusal} n band rest terms answer zero-at-most =
     record {
       not-refused = none;
       slots = slots;
-      band-from-zero = from-zero band (three .0);
-      band-within = within-band band (three .0);
+      band-from-zero = band-not-below band (three .0);
+      band-within = band-accepted band (three .0);
       rest-within = ltb-false 20000 (natAbs rest) (two .0);
       some-end = some-end;
       end-within = end-within;

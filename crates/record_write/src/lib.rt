@@ -44,7 +44,7 @@ pub fn write_record(
     let count = record_length(nodes.len());
     if destination.len() < count {
         return WriteAnswer {
-            refusal: 6,
+            refusal: limits::OUTPUT_SHORT,
             count: 0,
         };
     }
@@ -68,18 +68,18 @@ fn refuse(slots: usize, band: i32, rest: i32, nodes: &[u16], values: &[i16]) -> 
     ensures { λ r. ⌜ r ≡ packingRefusal slots band rest (paired (now (nodes .entry)) (now (values .entry))) ⌝ }
 {
     if limits::is_outside_slots(slots) {
-        return 4;
+        return limits::SLOTS_BEYOND;
     }
     if limits::is_beyond(limits::VALUE_LIMIT, rest) {
-        return 2;
+        return limits::VALUE_BEYOND;
     }
     if limits::is_outside_band(band) {
-        return 3;
+        return limits::BAND_BEYOND;
     }
     if is_valid(2 * padded_length(slots), nodes, values) {
         return 0;
     }
-    8
+    limits::TERMS_WRONG
 }
 
 // Writes the record of a header and terms over bytes that are just as long.

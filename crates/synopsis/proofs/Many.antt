@@ -4,21 +4,22 @@ use mathlib.Core.Bool.{Bool, true, false, not}
 use mathlib.Core.List.{List, [], _∷_}
 use Prim.Native.Nat.{ℕ, suc, _*_, _-_, _≤_, _<_}
 use native.Mathlib.Omega.{arith}
-use lib.Dec.{T, ltb, leb, ltb→lt}
+use lib.Dec.{T, ltb, leb}
 use lib.IntN.{ℤ, pos, natAbs}
 use lib.ListN.{length, take}
+use lib.Pow.{pow-pos}
 use lib.Seq.{take-all, length-take-le}
-use mir.Facts.{and-yes}
 use borrow.Author.Tests.{ltb-true, ltb-false}
 use Rattle.limits.specs.Answers.{_when_, _then_, granted, laid}
 use Rattle.limits.specs.Limits.{beyond, outsideBand, outsideSlots}
 use Rattle.limits.proofs.Refusals.{slots-within, first-counts, granted-nothing}
 use Rattle.histogram.specs.declared.Term.{Term}
-use Rattle.histogram.specs.Tree.{padded}
-use Rattle.histogram.specs.Terms.{validFrom, valid}
+use Rattle.histogram.specs.Tree.{height, padded}
+use Rattle.histogram.specs.Terms.{valid}
 use Rattle.histogram.specs.Restored.{restoredSlot, restoredProfile}
 use Rattle.histogram.specs.Restoring as restoring
 use Rattle.histogram.specs.Restoring.{SlotRestored, ProfileRestored}
+use Rattle.histogram.proofs.Ascent.{valid-few}
 use Rattle.histogram.proofs.Powers.{padded-bound}
 use Rattle.record.specs.Record.{recordLength, recordBytes}
 use Rattle.record.specs.Answers as writing
@@ -26,18 +27,6 @@ use Rattle.record_write.specs.declared.WriteAnswer.{WriteAnswer}
 use Rattle.record_write.specs.Writing.{RecordWritten}
 use Rattle.synopsis.specs.declared.Parts.{Parts}
 use Rattle.synopsis.specs.Inner.{termsOf, PartsOf}
-
--- strictly ascending nodes between `last` and `end` are few
-few-valid : (last end : ℕ) (terms : List Term) → T (validFrom last end terms) → length terms ≤ end - suc last
-unfolding validFrom
-few-valid last end [] right = omega arith
-few-valid last end (term ∷ terms) right =
-    let above : last < term .node = ltb→lt last (term .node) (and-yes (ltb last (term .node)) _ right .0) in
-    let below-on = and-yes (ltb last (term .node)) _ right .1 in
-    let below : term .node < end = ltb→lt (term .node) end (and-yes (ltb (term .node) end) _ below-on .0) in
-    let rest-on = and-yes (not (beyond 20000 (term .value))) _ (and-yes (ltb (term .node) end) _ below-on .1) .1 in
-    let fewer : length terms ≤ end - suc (term .node) = few-valid (term .node) end terms rest-on in
-    omega arith
 
 -- an answer that is refused in either case
 moved : (refusal first first′ later later′ : ℕ) → refusal ≡ (first then later) → first ≡ first′ → 0 < first′ → refusal ≡ (first′ then later′)
@@ -54,7 +43,7 @@ many-invalid terms many n inside = by-test (valid n terms) refl
   where
     by-test : (right : Bool) → valid n terms ≡ right → valid n terms ≡ false
     by-test false is = is
-    by-test true is = absurd (omega (arith, few-valid 0 (2 * padded n) terms (subst T (sym is) tt), padded-bound (slots-within n inside .few-slots), many))
+    by-test true is = absurd (omega (arith, valid-few {last = 0} {end = 2 * padded n} terms (omega (arith, pow-pos (height n))) (record { passes = subst T (sym is) tt }), padded-bound (slots-within n inside .few-slots), many))
 
 -- two lists of more than 1,023 terms
 module _ (first terms : List Term) (many-first : 1023 < length first) (many : 1023 < length terms) where
