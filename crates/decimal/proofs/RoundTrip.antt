@@ -64,6 +64,6 @@ unsigned-back number small = by-length (ltb (number / 100) 10) (ltb (number / 10
         ∙ ap some (omega arith)))
 
 -- for all values within ±40,000
-pub written-reads-back : (value : ℤ) → natAbs value ≤ 40000 → readsAs (written value) ≡ some value
-written-reads-back (pos number) small = unsigned-back number (omega arith) .plain
-written-reads-back (negsuc below) small = unsigned-back (suc below) (omega arith) .after-minus
+pub number-reads-back : (value : ℤ) → natAbs value ≤ 40000 → readsAs (written value) ≡ some value
+number-reads-back (pos number) small = unsigned-back number (omega arith) .plain
+number-reads-back (negsuc below) small = unsigned-back (suc below) (omega arith) .after-minus

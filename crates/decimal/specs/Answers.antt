@@ -28,8 +28,8 @@ pub record NumberRead (field : List ℕ) (refusal : ℕ) (number : ℤ) : Type 0
   pub number-is : number ≡ numberOr (pos 0) (readsAs field)
 
 -- "A number written out: 2, then 6 if the destination is shorter than its text"
-abbrev pub writingRefusal : ℤ → ℕ → ℕ
-writingRefusal number places = 2 when beyond 40000 number then 6 when ltb places (length (written number))
+abbrev pub numberWritingRefusal : ℤ → ℕ → ℕ
+numberWritingRefusal number places = 2 when beyond 40000 number then 6 when ltb places (length (written number))
 
 -- what is written: the text, and nothing on a refusal
 abbrev pub writtenText : ℕ → ℤ → List ℕ
@@ -37,6 +37,6 @@ writtenText refusal number = granted refusal (written number) []
 
 -- the refusal, how many bytes were written, and what the destination holds before and after
 pub record NumberWritten (number : ℤ) (refusal count : ℕ) (before after : List ℕ) : Type 0 where
-  pub refusal-is : refusal ≡ writingRefusal number (length before)
+  pub refusal-is : refusal ≡ numberWritingRefusal number (length before)
   pub count-is : count ≡ length (writtenText refusal number)
   pub destination-is : after ≡ laid (writtenText refusal number) before

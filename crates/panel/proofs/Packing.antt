@@ -18,11 +18,11 @@ use Rattle.record.specs.Record.{slotsIn, bandIn, restIn, termsIn}
 use Rattle.record_check.specs.Checking.{checkRefusal, kept, lowestBeyond, SlotRead, Checked}
 use Rattle.build.specs.declared.LeastBandAnswer.{LeastBandAnswer}
 use Rattle.build.specs.LeastBand.{LeastBandFound}
-use Rattle.panel.specs.Results.{packed, result, slotResult, againstTextResult, leastBandOfTextRefusal, LeastBandOfText}
+use Rattle.panel.specs.Results.{packedFields, result, slotResult, againstTextResult, leastBandOfTextRefusal, LeastBandOfText}
 use Rattle.panel.proofs.Texts.{Held, right-profile}
 
 -- a refusal leaves the other fields 0
-pub refused-result : (refusal first second third : ℕ) → 0 < refusal → packed refusal 0 0 0 ≡ result refusal first second third
+pub refused-result : (refusal first second third : ℕ) → 0 < refusal → packedFields refusal 0 0 0 ≡ result refusal first second third
 refused-result zero first second third wrong = absurd (omega arith)
 refused-result (suc refusal) first second third wrong = refl
 
@@ -40,18 +40,18 @@ granted-none : (refusal : ℕ) → granted {A = ℕ} refusal 0 0 ≡ 0
 granted-none zero = refl
 granted-none (suc refusal) = refl
 
-pub slot-packed : (bytes : List ℕ) (slot refusal : ℕ) (setpoint : ℤ) → SlotRead bytes slot refusal setpoint → packed refusal (complement 16 setpoint) 0 0 ≡ slotResult bytes slot
+pub slot-packed : (bytes : List ℕ) (slot refusal : ℕ) (setpoint : ℤ) → SlotRead bytes slot refusal setpoint → packedFields refusal (complement 16 setpoint) 0 0 ≡ slotResult bytes slot
 slot-packed bytes slot refusal setpoint read =
     rw (← read .refusal-is, granted-none refusal, read .setpoint-is, granted-complement refusal (restoredSlot (slotsIn bytes) (restIn bytes) (termsIn bytes) slot))
 
 -- ---- a record against a text
 
-pub against-refused : (bytes text : List ℕ) (refusal : ℕ) → refusal ≡ textRefusal text → 0 < refusal → packed refusal 0 0 0 ≡ againstTextResult bytes text
+pub against-refused : (bytes text : List ℕ) (refusal : ℕ) → refusal ≡ textRefusal text → 0 < refusal → packedFields refusal 0 0 0 ≡ againstTextResult bytes text
 against-refused bytes text refusal is wrong =
     rw (← is, first-counts refusal (checkRefusal (setpointsOf text) bytes) wrong) (refused-result refusal _ _ _ wrong)
 
 checked-packed : (profile : List ℤ) (bytes : List ℕ) (refusal : ℕ) (is-kept : Bool) (error slot : ℕ) → Checked profile bytes refusal is-kept error slot
-    → packed refusal (1 when is-kept) error slot
+    → packedFields refusal (1 when is-kept) error slot
     ≡ result refusal (1 when kept profile (restIn bytes) (termsIn bytes) (bandIn bytes))
     (cond (kept profile (restIn bytes) (termsIn bytes) (bandIn bytes)) (greatestError profile (restIn bytes) (termsIn bytes)) 0)
     (cond (kept profile (restIn bytes) (termsIn bytes) (bandIn bytes)) 0 (lowestBeyond profile (restIn bytes) (termsIn bytes) (bandIn bytes)))
@@ -63,25 +63,25 @@ checked-packed profile bytes (suc refusal) is-kept error slot checked =
     rw (nothing .0, nothing .1, nothing .2)
 
 pub against-packed : (bytes text : List ℕ) (profile : List ℤ) (refusal : ℕ) (is-kept : Bool) (error slot : ℕ) → textRefusal text ≡ 0 → profile ≡ setpointsOf text
-    → Checked profile bytes refusal is-kept error slot → packed refusal (1 when is-kept) error slot ≡ againstTextResult bytes text
+    → Checked profile bytes refusal is-kept error slot → packedFields refusal (1 when is-kept) error slot ≡ againstTextResult bytes text
 against-packed bytes text profile refusal is-kept error slot right profile-is checked =
     rw (right, ← profile-is, ← checked .refusal-is) (checked-packed profile bytes refusal is-kept error slot checked)
 
 -- ---- the least band of a text
 
-pub least-refused : (text : List ℕ) (budget refusal number : ℕ) → refusal ≡ textRefusal text → 0 < refusal → number ≡ packed refusal 0 0 0 → LeastBandOfText text budget number
+pub least-refused : (text : List ℕ) (budget refusal number : ℕ) → refusal ≡ textRefusal text → 0 < refusal → number ≡ packedFields refusal 0 0 0 → LeastBandOfText text budget number
 least-refused text budget refusal number is wrong number-is =
     let counts : leastBandOfTextRefusal text budget ≡ refusal = rw (← is) (first-counts refusal _ wrong) in
     record { band = 0; least = λ none. absurd (omega (arith, counts)); result-is = number-is ∙ rw counts (refused-result refusal 0 0 0 wrong) }
 
-pub budget-refused : (text : List ℕ) (budget number : ℕ) → textRefusal text ≡ 0 → 1023 < budget → number ≡ packed 5 0 0 0 → LeastBandOfText text budget number
+pub budget-refused : (text : List ℕ) (budget number : ℕ) → textRefusal text ≡ 0 → 1023 < budget → number ≡ packedFields 5 0 0 0 → LeastBandOfText text budget number
 budget-refused text budget number right large number-is =
     let five : leastBandOfTextRefusal text budget ≡ 5 = rw (right, lt-ltb 1023 budget large) in
     record { band = 0; least = λ none. absurd (omega (arith, five)); result-is = rw five number-is }
 
 pub least-packed : (text : List ℕ) (rest band : ℤ) (slots : ℕ) (room : List ℤ) (budget : ℕ) (answer : LeastBandAnswer) (number : ℕ) (profile scratch scratch′ : List ℤ) → Held text rest band slots room
     → budget ≤ 1023 → profile ≡ setpointsOf text → 12288 ≤ length scratch → LeastBandFound profile rest budget answer scratch scratch′
-    → number ≡ packed 0 (answer .band) 0 0 → LeastBandOfText text budget number
+    → number ≡ packedFields 0 (answer .band) 0 0 → LeastBandOfText text budget number
 least-packed text rest band slots room budget answer number profile scratch scratch′ held few profile-is long found number-is =
     let right = right-profile text (held .not-refused) in
     let few-enough : ltb 1023 budget ≡ false = le-ltb 1023 budget few in

@@ -24,7 +24,7 @@ use Rattle.record_write.specs.Writing.{RecordWritten}
 use Rattle.claims.specs.Best.{Best}
 use Rattle.build.specs.declared.BuildAnswer.{BuildAnswer}
 use Rattle.build.specs.Building.{buildRefusal, Built, handedOver}
-use Rattle.panel.specs.Results.{packed, textToRecordRefusal, TextToRecord}
+use Rattle.panel.specs.Results.{packedFields, textToRecordRefusal, TextToRecord}
 use Rattle.panel.specs.Inner.{RecordBuilt}
 use Rattle.build.specs.Inner.{RightProfile}
 use Rattle.panel.proofs.Texts.{Held}
@@ -96,7 +96,7 @@ module _ {profile : List ℤ} {rest band : ℤ} (right : RightProfile profile re
       destination : after ≡ laid (granted (6 when ltb (length before) (recordLength (length terms))) (recordBytes (length profile) (natAbs band) rest terms) []) before
       destination = rw (written-is) at (record-written .destination-is)
 
-      pub record-refused : 0 < written .refusal → number ≡ packed (written .refusal) 0 0 0 → RecordBuilt profile rest band before after number
+      pub record-refused : 0 < written .refusal → number ≡ packedFields (written .refusal) 0 0 0 → RecordBuilt profile rest band before after number
       record-refused wrong number-is = record {
         terms = terms;
         best = is-best;
@@ -104,7 +104,7 @@ module _ {profile : List ℤ} {rest band : ℤ} (right : RightProfile profile re
         destination-is = destination;
       }
 
-      pub record-built : written .refusal ≤ 0 → number ≡ packed 0 (written .count) (answer .count) (answer .error) → RecordBuilt profile rest band before after number
+      pub record-built : written .refusal ≤ 0 → number ≡ packedFields 0 (written .count) (answer .count) (answer .error) → RecordBuilt profile rest band before after number
       record-built right′ number-is =
           let none : written .refusal ≡ 0 = omega arith in
           let bytes-are : written .count ≡ recordLength (length terms) = rw none at (record-written .count-is) in
@@ -124,7 +124,7 @@ module _ {profile : List ℤ} {rest band : ℤ} (right : RightProfile profile re
 
 -- ---- text to record
 
-pub text-refused : (text before : List ℕ) (refusal number : ℕ) → refusal ≡ textRefusal text → 0 < refusal → number ≡ packed refusal 0 0 0 → TextToRecord text before before number
+pub text-refused : (text before : List ℕ) (refusal number : ℕ) → refusal ≡ textRefusal text → 0 < refusal → number ≡ packedFields refusal 0 0 0 → TextToRecord text before before number
 text-refused text before refusal number is wrong number-is =
     let counts : textToRecordRefusal text [] (length before) ≡ refusal = rw (← is) (first-counts refusal _ wrong) in
     record {

@@ -14,16 +14,17 @@ use Rattle.histogram.specs.declared.Term.{Term}
 use Rattle.histogram.specs.Restored.{restoredSlot}
 use Rattle.histogram.specs.Errors.{greatestError}
 use Rattle.record.specs.Record.{recordLength, recordBytes, slotsIn, bandIn, restIn, termsIn}
-use Rattle.record_check.specs.Checking.{slotRefusal, checkRefusal, kept, lowestBeyond}
+use Rattle.record_check.specs.Checking.{recordSlotRefusal, checkRefusal, kept, lowestBeyond}
 use Rattle.claims.specs.Best.{Best}
 use Rattle.claims.specs.LeastBand.{LeastBand}
 
-abbrev pub packed : ℕ → ℕ → ℕ → ℕ → ℕ
-packed refusal first second third = refusal + 65536 * (first + 65536 * (second + 65536 * third))
+-- four fields of 16 bits in one number, lowest first
+abbrev pub packedFields : ℕ → ℕ → ℕ → ℕ → ℕ
+packedFields refusal first second third = refusal + 65536 * (first + 65536 * (second + 65536 * third))
 
 -- the refusal, and where it is none three fields
 abbrev pub result : ℕ → ℕ → ℕ → ℕ → ℕ
-result refusal first second third = packed refusal (granted refusal first 0) (granted refusal second 0) (granted refusal third 0)
+result refusal first second third = packedFields refusal (granted refusal first 0) (granted refusal second 0) (granted refusal third 0)
 
 -- "Text to record: text, then 6 if the destination is shorter than the record"
 abbrev pub textToRecordRefusal : List ℕ → List Term → ℕ → ℕ
@@ -40,7 +41,7 @@ pub record TextToRecord (text before after : List ℕ) (number : ℕ) : Type 0 w
 
 -- one slot of a record: the setpoint in two's complement, 0, 0
 abbrev pub slotResult : List ℕ → ℕ → ℕ
-slotResult bytes slot = result (slotRefusal bytes slot) (complement 16 (restoredSlot (slotsIn bytes) (restIn bytes) (termsIn bytes) slot)) 0 0
+slotResult bytes slot = result (recordSlotRefusal bytes slot) (complement 16 (restoredSlot (slotsIn bytes) (restIn bytes) (termsIn bytes) slot)) 0 0
 
 -- "Record against text: text, then the check's"
 abbrev pub againstTextRefusal : List ℕ → List ℕ → ℕ

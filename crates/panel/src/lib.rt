@@ -8,7 +8,7 @@ use record_check::read_slot;
 use record_write::write_record;
 ghost use mathlib.Core.Path.{_≡_};
 ghost use Rattle.limits.specs.Answers.{_when_};
-ghost use Rattle.panel.specs.Results.{packed, slotResult, againstTextResult, TextToRecord, LeastBandOfText};
+ghost use Rattle.panel.specs.Results.{packedFields, slotResult, againstTextResult, TextToRecord, LeastBandOfText};
 ghost use Rattle.panel.specs.Inner.{Fields, RecordBuilt};
 ghost use Rattle.build.specs.Inner.{RightProfile};
 
@@ -106,7 +106,7 @@ pub extern "C" fn panel_least_band_of_text(text: &[u8], budget: u64) -> u64
 // Four fields in one number, lowest first.
 fn pack(refusal: u64, first: u64, second: u64, third: u64) -> u64
     requires { ⌜ Fields refusal first second third ⌝ }
-    ensures { λ r. ⌜ r ≡ packed refusal first second third ⌝ }
+    ensures { λ r. ⌜ r ≡ packedFields refusal first second third ⌝ }
 {
     refusal + 65536 * (first + 65536 * (second + 65536 * third))
 }

@@ -70,7 +70,7 @@ pub fn print_term(node: u16, value: i16) {
 }
 
 // Prints whether lent numbers, which held the same in every place, hold it still.
-pub fn print_kept(numbers: &[i16], held: i16) {
+pub fn print_unchanged(numbers: &[i16], held: i16) {
     if are_all(numbers, held) {
         print(b" as it was");
     } else {

@@ -16,12 +16,12 @@ use Rattle.record.specs.Record.{slotsIn, bandIn, restIn, termsIn}
 use Rattle.record.specs.Answers.{recordRefusal}
 
 -- "One slot: the record's without 6, then 10"
-abbrev pub slotRefusal : List ℕ → ℕ → ℕ
-slotRefusal bytes slot = recordRefusal bytes then 10 when leb (slotsIn bytes) slot
+abbrev pub recordSlotRefusal : List ℕ → ℕ → ℕ
+recordSlotRefusal bytes slot = recordRefusal bytes then 10 when leb (slotsIn bytes) slot
 
 -- the answer for one slot of a record
 pub record SlotRead (bytes : List ℕ) (slot refusal : ℕ) (setpoint : ℤ) : Type 0 where
-  pub refusal-is : refusal ≡ slotRefusal bytes slot
+  pub refusal-is : refusal ≡ recordSlotRefusal bytes slot
   pub setpoint-is : setpoint ≡ granted refusal (restoredSlot (slotsIn bytes) (restIn bytes) (termsIn bytes) slot) (pos 0)
 
 -- "Check: 4, 7, 2, 3, 8, then 2 for the setpoints, 9"

@@ -20,7 +20,7 @@ use Rattle.record.specs.Answers.{headerRefusal}
 use Rattle.record.proofs.Bounds
 use Rattle.record.proofs.RoundTrips.{well-formed-parts}
 use Rattle.record_read.specs.declared.HeaderAnswer.{HeaderAnswer}
-use Rattle.record_read.specs.Inner.{Framed, HeaderRead, noHeader, firstTerms, TermsRead, RoomRead}
+use Rattle.record_read.specs.Inner.{Framed, HeaderRead, noHeader, firstTerms, TermsLaid, RoomRead}
 use Rattle.record_read.proofs.Frames.{no-header}
 use Rattle.record_read.proofs.Terms.{nodes-long, values-long}
 
@@ -55,7 +55,7 @@ module _ {bytes : List ℕ} {answer : HeaderAnswer} (read : HeaderRead bytes ans
     pub few-slots : answer .slots ≤ 512
     few-slots = rw slots-are (Bounds.few-slots bytes)
 
-    module _ {nodes nodes′ : List ℕ} {values values′ : List ℤ} (terms : TermsRead bytes (answer .count) nodes nodes′ values values′) where
+    module _ {nodes nodes′ : List ℕ} {values values′ : List ℤ} (terms : TermsLaid bytes (answer .count) nodes nodes′ values values′) where
       pub nodes-front : take (answer .count) nodes′ ≡ nodesOf (firstTerms (answer .count) bytes)
       nodes-front = rw (terms .nodes-are) (front-of (nodesOf (firstTerms (answer .count) bytes)) nodes (answer .count) (nodes-long (answer .count) bytes))
 

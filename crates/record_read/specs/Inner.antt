@@ -75,6 +75,6 @@ abbrev pub firstTerms : ℕ → List ℕ → List Term
 firstTerms count bytes = termsFrom count (layoutWidth headerLayout) bytes
 
 -- these terms, laid over the room
-pub record TermsRead (bytes : List ℕ) (count : ℕ) (nodes nodes′ : List ℕ) (values values′ : List ℤ) : Type 0 where
+pub record TermsLaid (bytes : List ℕ) (count : ℕ) (nodes nodes′ : List ℕ) (values values′ : List ℤ) : Type 0 where
   pub nodes-are : nodes′ ≡ laid (nodesOf (firstTerms count bytes)) nodes
   pub values-are : values′ ≡ laid (valuesOf (firstTerms count bytes)) values

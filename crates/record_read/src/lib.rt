@@ -9,7 +9,7 @@ ghost use mathlib.Core.Path.{_≡_};
 ghost use Prim.Native.Nat.{_≤_};
 ghost use lib.ListN.{length};
 ghost use Rattle.record_read.specs.Reading.{RecordRead};
-ghost use Rattle.record_read.specs.Inner.{Room, RoomRead, HeaderRead, FrameRead, Framed, fillAfter, FieldsRead, noHeader, TermsFit, TermsRead};
+ghost use Rattle.record_read.specs.Inner.{Room, RoomRead, HeaderRead, FrameRead, Framed, fillAfter, FieldsRead, noHeader, TermsFit, TermsLaid};
 
 // A record's header, or the refusal with 0 for each.
 pub struct HeaderAnswer {
@@ -140,7 +140,7 @@ fn read_fields(bytes: &[u8], count: usize) -> HeaderAnswer
 // Reads that many terms over the fronts of `nodes` and `values`.
 fn read_terms(bytes: &[u8], count: usize, nodes: &mut [u16], values: &mut [i16])
     requires { ⌜ TermsFit (now bytes) count (now nodes) (now values) ⌝ }
-    ensures { λ _. ⌜ TermsRead (now (bytes .entry)) count (now (nodes .entry)) (now (nodes .exit)) (now (values .entry)) (now (values .exit)) ⌝ }
+    ensures { λ _. ⌜ TermsLaid (now (bytes .entry)) count (now (nodes .entry)) (now (nodes .exit)) (now (values .entry)) (now (values .exit)) ⌝ }
 {
     let mut place = places().terms;
     let mut i = 0;

@@ -36,14 +36,14 @@ fn power_of_two(exponent: usize) -> usize
 
 // How a node's setpoints and stretch part between its children: the left child's setpoints end at `half`,
 // the children's stretches lie from `own` to `middle` and from there to `end`.
-pub struct Parts {
+pub struct ChildPlaces {
     pub half: usize,
     pub own: usize,
     pub middle: usize,
     pub end: usize,
 }
 
-pub fn plan(height: usize) -> Parts
+pub fn plan(height: usize) -> ChildPlaces
     requires { ⌜ (0 < height) × (height ≤ 9) ⌝ }
     ensures { λ r. ⌜ Planned height (r .half) (r .own) (r .middle) (r .end) ⌝ }
 {
@@ -51,7 +51,7 @@ pub fn plan(height: usize) -> Parts
     let child = places_of(height - 1, half);
     let own = 4 * half + 2;
     let middle = own + child;
-    Parts {
+    ChildPlaces {
         half: half,
         own: own,
         middle: middle,

@@ -27,7 +27,7 @@ use Rattle.record_read.proofs.Frames.{no-header}
 use Rattle.build.specs.Building.{buildRefusal, Built, handedOver}
 use Rattle.build.specs.declared.BuildAnswer.{BuildAnswer}
 use Rattle.synopsis.specs.declared.Parts.{Parts}
-use Rattle.synopsis.specs.Inner.{Within, PartsOf, forPlaces, ReadInRoom, BuiltInRoom}
+use Rattle.synopsis.specs.Inner.{InRoom, PartsOf, forPlaces, ReadInRoom, BuiltInRoom}
 
 -- 1,024 places are as good as more where at most 512 are wanted
 enough-places : (places wanted : ℕ) → wanted ≤ 512 → ltb (min places 1024) wanted ≡ ltb places wanted
@@ -64,10 +64,10 @@ counted-values (suc count) (node ∷ nodes) (value ∷ values) =
     omega arith
 
 -- parts that are all in the room
-pub nodes-there : (parts : Parts) → Within parts → length (take (parts .count) (parts .nodes)) ≡ parts .count
+pub nodes-there : (parts : Parts) → InRoom parts → length (take (parts .count) (parts .nodes)) ≡ parts .count
 nodes-there parts within = length-take-le (parts .count) (parts .nodes) (within .of-nodes)
 
-pub values-there : (parts : Parts) → Within parts → length (take (parts .count) (parts .values)) ≡ parts .count
+pub values-there : (parts : Parts) → InRoom parts → length (take (parts .count) (parts .values)) ≡ parts .count
 values-there parts within = length-take-le (parts .count) (parts .values) (within .of-values)
 
 -- the part of a room for that many places

@@ -30,18 +30,18 @@ abbrev pub termsOf : Parts → List Term
 termsOf parts = handedOver (parts .count) (parts .nodes) (parts .values)
 
 -- parts that are all in the room
-pub record Within (parts : Parts) : Type 0 where
+pub record InRoom (parts : Parts) : Type 0 where
   pub of-nodes : parts .count ≤ length (parts .nodes)
   pub of-values : parts .count ≤ length (parts .values)
 
 -- the parts of a list of terms, or of its first 1,024
 pub record PartsOf (terms : List Term) (parts : Parts) : Type 0 where
-  pub within : Within parts
+  pub within : InRoom parts
   pub terms-are : termsOf parts ≡ take 1024 terms
 
 -- parts that are all in the room, and go into a slice of that many places
 pub record FitTogether (parts : Parts) (places : ℕ) : Type 0 where
-  pub within : Within parts
+  pub within : InRoom parts
   pub in-terms : parts .count ≤ places
 
 -- a record's header, or 6 where it has more terms than places

@@ -14,7 +14,7 @@ ghost use Rattle.histogram.specs.Restoring.{SlotRestored, ProfileRestored};
 ghost use Rattle.record_write.specs.Writing.{RecordWritten};
 ghost use Rattle.build.specs.Building.{Built};
 ghost use Rattle.synopsis.specs.Answers.{TermsRead, TermsHanded};
-ghost use Rattle.synopsis.specs.Inner.{termAt, Within, PartsOf, FitTogether, termsOf, BuiltInRoom, forPlaces, ReadInRoom};
+ghost use Rattle.synopsis.specs.Inner.{termAt, InRoom, PartsOf, FitTogether, termsOf, BuiltInRoom, forPlaces, ReadInRoom};
 
 // One term, copied out of a slice.
 fn term_out(terms: &[Term], place: usize) -> Term
@@ -104,7 +104,7 @@ pub fn restore_slot(slots: usize, rest: i32, terms: &[Term], slot: usize) -> Slo
 
 // The same, of terms taken apart.
 fn restore_slot_of_parts(slots: usize, rest: i32, parts: Parts, slot: usize) -> SlotAnswer
-    requires { ⌜ Within parts ⌝ }
+    requires { ⌜ InRoom parts ⌝ }
     ensures { λ r. ⌜ SlotRestored slots rest (termsOf parts) slot (r .refusal) (r .setpoint) ⌝ }
 {
     let count = parts.count;
@@ -123,7 +123,7 @@ pub fn restore_profile(slots: usize, rest: i32, terms: &[Term], setpoints: &mut 
 
 // The same, of terms taken apart.
 fn restore_profile_of_parts(slots: usize, rest: i32, parts: Parts, setpoints: &mut [i16]) -> u8
-    requires { ⌜ Within parts ⌝ }
+    requires { ⌜ InRoom parts ⌝ }
     ensures { λ r. ⌜ ProfileRestored slots rest (termsOf parts) r (now (setpoints .entry)) (now (setpoints .exit)) ⌝ }
 {
     let count = parts.count;
@@ -154,7 +154,7 @@ fn write_record_of_parts(
     parts: Parts,
     destination: &mut [u8],
 ) -> WriteAnswer
-    requires { ⌜ Within parts ⌝ }
+    requires { ⌜ InRoom parts ⌝ }
     ensures { λ r. ⌜ RecordWritten slots band rest (termsOf parts) r (now (destination .entry)) (now (destination .exit)) ⌝ }
 {
     let count = parts.count;

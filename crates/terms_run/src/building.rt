@@ -1,11 +1,11 @@
 // Building into a slice of terms. In each refusal every later check would fail too, so the order shows. Every lent place holds 9 before a call.
 use crate::calls;
-use crate::lists::no_terms;
+use crate::lists::zero_terms;
 use crate::print_built;
 use crate::print_terms;
 use printing::print;
 use printing::print_call;
-use printing::print_kept;
+use printing::print_unchanged;
 ghost use Prim.Native.Nat.{_≤_};
 
 pub fn run() {
@@ -94,7 +94,7 @@ fn just_enough() {
 fn one_number_changed() {
     let scratch = [9i16, 9, 8];
     print(b"one of three numbers changed: scratch");
-    print_kept(&scratch, 9);
+    print_unchanged(&scratch, 9);
     print(b"\n");
 }
 
@@ -102,7 +102,7 @@ fn one_number_changed() {
 fn build(what: &[u8], setpoints: &[i16], rest: i32, band: i32, places: usize, scratch: &mut [i16])
     requires { ⌜ places ≤ 1100 ⌝ }
 {
-    let built = calls::build(setpoints, rest, band, no_terms(), places, scratch);
+    let built = calls::build(setpoints, rest, band, zero_terms(), places, scratch);
     let answer = built.answer;
     let terms = built.terms;
     print_call(b"build ", what);
@@ -115,7 +115,7 @@ fn build(what: &[u8], setpoints: &[i16], rest: i32, band: i32, places: usize, sc
 fn print_scratch(refusal: u8, scratch: &[i16]) {
     if 0 < refusal {
         print(b" scratch");
-        print_kept(scratch, 9);
+        print_unchanged(scratch, 9);
     }
     print(b"\n");
 }

@@ -17,7 +17,7 @@ use Rattle.windows.proofs.Sets.{covers-within}
 use Rattle.subtree.specs.Answer.{Answer, answer}
 use Rattle.subtree.specs.Stretch.{Usable, Planned}
 use Rattle.subtree.proofs.Answers.{answer-sorted, answer-bounded}
-use Rattle.trace.specs.Trace.{change, handedOn, levelTerms, setAt, SolvedStretch, HandedDown, TermFits, LevelFits, Appended, LevelTraced}
+use Rattle.trace.specs.Trace.{change, handedOn, levelTerms, setAt, SolvedStretch, HandedToChildren, TermFits, LevelFits, Appended, LevelTraced}
 use Rattle.trace.proofs.Chosen.{handed-on-inside, handed-on-in-set, handed-on-twice, choice-is-change}
 use Rattle.trace.proofs.Siblings.{no-terms}
 use Rattle.trace.proofs.Stretches.{top-is, left-is, right-is, left-stretch, right-stretch, same-level}
@@ -117,7 +117,7 @@ pub record Descent (scratch : List ℤ) (height depth below node value : ℕ) (n
   pub fits : LevelFits scratch height depth node value nodes values count
   pub deeper : depth ≡ suc below
   pub planned : Planned height half own middle end
-  pub handed : HandedDown scratch own middle value left right
+  pub handed : HandedToChildren scratch own middle value left right
 
 module _ {scratch : List ℤ} {height depth below node value : ℕ} {nodes : List ℕ} {values : List ℤ} {count half own middle end left right : ℕ}
     (descent : Descent scratch height depth below node value nodes values count half own middle end left right) where

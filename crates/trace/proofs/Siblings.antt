@@ -15,7 +15,7 @@ use Rattle.windows.proofs.Sets.{covers-meet, covers-join}
 use Rattle.subtree.specs.Answer.{Answer, combinedBy, combined, answer}
 use Rattle.subtree.specs.Stretch.{answerAt, Usable}
 use Rattle.subtree.proofs.Answers.{apart, answer-sorted, usable-take, usable-drop}
-use Rattle.trace.specs.Trace.{levelTerms, setAt, Handing, HandedDown}
+use Rattle.trace.specs.Trace.{levelTerms, setAt, Handing, HandedToChildren}
 use Rattle.trace.proofs.Chosen.{handed-on-inside, handed-on-outside, lowest-there}
 
 -- of two tests exactly one holds where either does and not both
@@ -72,7 +72,7 @@ module _ {scratch : List ℤ} {left right value : ℕ} (pre : Handing scratch le
   in-set : covers (combined on-left on-right .windows) value ≡ true
   in-set = subst (λ (one : Answer). covers (one .windows) value ≡ true) (pre .combines) (pre .in-set)
 
-  pub handed-to-both : at scratch 0 ≤ at scratch left + at scratch right → HandedDown scratch left right value value value
+  pub handed-to-both : at scratch 0 ≤ at scratch left + at scratch right → HandedToChildren scratch left right value value value
   handed-to-both met =
       let both = in-both on-left on-right (pre .left-answered .sorted) (pre .right-answered .sorted) value (omega (arith, number-is)) in-set in
       record { left-is = sym (handed-on-inside (setAt scratch left) value (both .0)); right-is = sym (handed-on-inside (setAt scratch right) value (both .1)) }
@@ -81,7 +81,7 @@ module _ {scratch : List ℤ} {left right value : ℕ} (pre : Handing scratch le
     other-is : covers (setAt scratch right) value ≡ not (covers (setAt scratch left) value)
     other-is = in-one on-left on-right (pre .left-answered .sorted) (pre .right-answered .sorted) value (omega (arith, number-is)) in-set
 
-    pub handed-to-left : covers (setAt scratch left) value ≡ true → HandedDown scratch left right value value (at scratch (right + 2))
+    pub handed-to-left : covers (setAt scratch left) value ≡ true → HandedToChildren scratch left right value value (at scratch (right + 2))
     handed-to-left inside =
         let outside : covers (setAt scratch right) value ≡ false = other-is ∙ ap not inside in
         record {
@@ -89,7 +89,7 @@ module _ {scratch : List ℤ} {left right value : ℕ} (pre : Handing scratch le
           right-is = sym (handed-on-outside (setAt scratch right) value outside ∙ lowest-there (pre .right-answered));
         }
 
-    pub handed-to-right : covers (setAt scratch left) value ≡ false → HandedDown scratch left right value (at scratch (left + 2)) value
+    pub handed-to-right : covers (setAt scratch left) value ≡ false → HandedToChildren scratch left right value (at scratch (left + 2)) value
     handed-to-right outside =
         let inside : covers (setAt scratch right) value ≡ true = other-is ∙ ap not outside in
         record {

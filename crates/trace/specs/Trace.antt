@@ -66,7 +66,7 @@ pub record Handing (scratch : List ℤ) (left right value : ℕ) : Type 0 where
   pub in-set : covers (setAt scratch 0) value ≡ true
 
 -- the values that two children hand on where a value comes in
-pub record HandedDown (scratch : List ℤ) (left right value leftNext rightNext : ℕ) : Type 0 where
+pub record HandedToChildren (scratch : List ℤ) (left right value leftNext rightNext : ℕ) : Type 0 where
   pub left-is : leftNext ≡ handedOn (setAt scratch left) value
   pub right-is : rightNext ≡ handedOn (setAt scratch right) value
 

@@ -7,7 +7,7 @@ ghost use mathlib.Core.Path.{_≡_};
 ghost use mathlib.Core.List.{[]};
 ghost use Prim.Native.Nat.{_≤_};
 ghost use Rattle.claims.specs.Inner.{withTerm};
-ghost use Rattle.trace.specs.Trace.{change, handedOn, setAt, Answered, TermFits, Handing, HandedDown, LevelFits, LevelsFit, Appended, LevelTraced, UpperTraced, LevelsTraced};
+ghost use Rattle.trace.specs.Trace.{change, handedOn, setAt, Answered, TermFits, Handing, HandedToChildren, LevelFits, LevelsFit, Appended, LevelTraced, UpperTraced, LevelsTraced};
 
 // Writes the terms of all levels, one level after the other, over the fronts of two slices; the answer is how many.
 pub fn trace(
@@ -72,7 +72,7 @@ fn trace_level(
     let own = parts.own;
     let middle = parts.middle;
     let end = parts.end;
-    let next = hand_down(scratch, own, middle, value);
+    let next = hand_to_children(scratch, own, middle, value);
     let left = next.left;
     let right = next.right;
     if 2 < depth {
@@ -132,7 +132,7 @@ fn trace_children(
     ensures { λ r. ⌜ LevelTraced (now (scratch .entry)) height 1 node value (now (nodes .entry)) (now (nodes .exit)) (now (values .entry)) (now (values .exit)) count r ⌝ }
 {
     let parts = plan(height);
-    let next = hand_down(scratch, parts.own, parts.middle, value);
+    let next = hand_to_children(scratch, parts.own, parts.middle, value);
     let first = write_term(2 * node, value, next.left, nodes, values, count);
     write_term(2 * node + 1, value, next.right, nodes, values, first)
 }
@@ -165,9 +165,9 @@ struct Handed {
 
 // The values that two children hand on where a value of the node's set comes in; their answers stand at `left` and `right`.
 // Where the children's sets meet, the value is in both. Else the node's number is greater than the sum of theirs, and the value is in one of the sets.
-fn hand_down(scratch: &[i16], left: usize, right: usize, value: usize) -> Handed
+fn hand_to_children(scratch: &[i16], left: usize, right: usize, value: usize) -> Handed
     requires { ⌜ Handing (now scratch) left right value ⌝ }
-    ensures { λ r. ⌜ HandedDown (now (scratch .entry)) left right value (r .left) (r .right) ⌝ }
+    ensures { λ r. ⌜ HandedToChildren (now (scratch .entry)) left right value (r .left) (r .right) ⌝ }
 {
     let numbers = load(scratch, left) + load(scratch, right);
     if load(scratch, 0) <= numbers {

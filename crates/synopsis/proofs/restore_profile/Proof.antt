@@ -5,7 +5,7 @@ use Rattle.histogram.specs.Restoring.{ProfileRestored}
 use Rattle.synopsis.proofs.Answering.{Of, answers, lasting}
 use Rattle.synopsis.proofs.Many.{profile-restored}
 use Rattle.synopsis.specs.declared.Parts.{Parts}
-use Rattle.synopsis.specs.Inner.{Within, termsOf}
+use Rattle.synopsis.specs.Inner.{InRoom, termsOf}
 use Rattle.synopsis.proofs.Callees.{Take, takes}
 use Rattle.synopsis.proofs.Parts as K
 use Rattle.synopsis.proofs.Parts.Laws as K′
@@ -80,7 +80,7 @@ module _ {M : Type 1} (𝓤 : URA M) (H : Heap 𝓤) (A : Atoms 𝓤) (W : Given
   abbrev to-work : Parts → Val → Work 𝓤 H A mem run .Ghost
   to-work r u = (((κ₁, tt), (q₁, tt), tt, (slots, (rest, (r, (xO, tt)))), (vint w64 slots ∷ [], (vint w32 (ofZ w32 rest) ∷ [], (u ∷ [], (vO ∷ [], tt))))), tt)
 
-  goes-work : (r : Parts) (u : Val) → Is K.the-row r (u ∷ []) → Within r → Is usize slots (vint w64 slots ∷ []) → Is i32 rest (vint w32 (ofZ w32 rest) ∷ []) → ent 𝓤 (sep 𝓤 (A .lft κ₁ q₁) (sem 𝓤 H A OwnO)) (Work 𝓤 H A mem run .pre (to-work r u))
+  goes-work : (r : Parts) (u : Val) → Is K.the-row r (u ∷ []) → InRoom r → Is usize slots (vint w64 slots ∷ []) → Is i32 rest (vint w32 (ofZ w32 rest) ∷ []) → ent 𝓤 (sep 𝓤 (A .lft κ₁ q₁) (sem 𝓤 H A OwnO)) (Work 𝓤 H A mem run .pre (to-work r u))
   goes-work r u is within is-slots is-rest =
       qed W (‵ (flft κ₁ q₁) ∷ ‵ OwnO ∷ []) ∵ says ! within $
       nothing ! $ move ! (1 ∷ 0 ∷ []) $ join ! $ frame ! $ nothing ! $

@@ -8,7 +8,7 @@ use Rattle.histogram.proofs.restore.SlotAnswer.Laws as Q′
 use Rattle.synopsis.proofs.Answering.{Of, answers}
 use Rattle.synopsis.proofs.Many.{slot-restored}
 use Rattle.synopsis.specs.declared.Parts.{Parts}
-use Rattle.synopsis.specs.Inner.{Within, termsOf}
+use Rattle.synopsis.specs.Inner.{InRoom, termsOf}
 use Rattle.synopsis.proofs.Callees.{Take, takes}
 use Rattle.synopsis.proofs.Parts as K
 use Rattle.synopsis.proofs.Parts.Laws as K′
@@ -74,7 +74,7 @@ module _ {M : Type 1} (𝓤 : URA M) (H : Heap 𝓤) (A : Atoms 𝓤) (W : Given
   abbrev to-work : Parts → Val → Work 𝓤 H A mem run .Ghost
   to-work r u = ((tt, tt, tt, (slots, (rest, (r, (slot, tt)))), (vint w64 slots ∷ [], (vint w32 (ofZ w32 rest) ∷ [], (u ∷ [], (vint w64 slot ∷ [], tt))))), tt)
 
-  goes-work : (r : Parts) (u : Val) → Is K.the-row r (u ∷ []) → Within r → Is usize slots (vint w64 slots ∷ []) → Is i32 rest (vint w32 (ofZ w32 rest) ∷ []) → Is usize slot (vint w64 slot ∷ []) → ent 𝓤 (sem 𝓤 H A ftrue) (Work 𝓤 H A mem run .pre (to-work r u))
+  goes-work : (r : Parts) (u : Val) → Is K.the-row r (u ∷ []) → InRoom r → Is usize slots (vint w64 slots ∷ []) → Is i32 rest (vint w32 (ofZ w32 rest) ∷ []) → Is usize slot (vint w64 slot ∷ []) → ent 𝓤 (sem 𝓤 H A ftrue) (Work 𝓤 H A mem run .pre (to-work r u))
   goes-work r u is within is-slots is-rest is-slot =
       qed W (‵ ftrue ∷ []) ∵ says ! within $
       nothing ! $ move ! (1 ∷ []) $ frame ! $

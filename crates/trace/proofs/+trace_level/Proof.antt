@@ -9,7 +9,7 @@ use Rattle.windows.proofs.load.Reads as load-reads
 use Rattle.subtree.proofs.plan.Reads as plan-reads
 use Rattle.trace.proofs.Levels.{Descent, none-below, node-small, left-fits, right-fits, level-traced}
 use Rattle.trace.proofs.Stretches.{handing, answered}
-use Rattle.trace.proofs.hand_down.Reads as hand-down-reads
+use Rattle.trace.proofs.hand_to_children.Reads as hand-to-children-reads
 use Rattle.trace.proofs.trace_children.Reads as trace-children-reads
 use Rattle.trace.proofs.trace_level.Reads as trace-level
 use Rattle.trace.proofs.trace_level.Kinds as trace-level-kinds
@@ -28,29 +28,29 @@ below-measure t = and 3 trace-level-kinds.ps (falls 3 trace-level-kinds.ps _<_ �
 
 -- what is asked of each call and learnt from it
 abbrev calls : ℕ → lts.Claims
-calls t = (load-reads.Asked, load-reads.Learnt, plan-reads.Asked, plan-reads.Learnt, hand-down-reads.Asked, hand-down-reads.Learnt, below-measure t, trace-level.Post, trace-children-reads.Asked, trace-children-reads.Learnt)
+calls t = (load-reads.Asked, load-reads.Learnt, plan-reads.Asked, plan-reads.Learnt, hand-to-children-reads.Asked, hand-to-children-reads.Learnt, below-measure t, trace-level.Post, trace-children-reads.Asked, trace-children-reads.Learnt)
 
 module _ (t : ℕ) where
   -- what holds once the values that the children hand on are known
-  abbrev Descends : lts.After-hand-down (calls t) (at-measure t) trace-level.Post → ℕ → Type 0
+  abbrev Descends : lts.After-hand-to-children (calls t) (at-measure t) trace-level.Post → ℕ → Type 0
   Descends c below =
       let args = c .before .before .before .before .before .args in
       let parts = c .before .plan .result in
       Descent (args .scratch .now) (args .height) (args .depth) below (args .node) (args .value) (args .nodes .now) (args .values .now) (args .count) (parts .half) (parts .own) (parts .middle)
-      (parts .end) (c .hand-down .result .left) (c .hand-down .result .right)
+      (parts .end) (c .hand-to-children .result .left) (c .hand-to-children .result .right)
 
-  descent : (c : lts.After-hand-down (calls t) (at-measure t) trace-level.Post) (below : ℕ) → c .before .before .before .before .before .args .depth ≡ suc below → Descends c below
-  descent c below deeper = record { fits = c .before .before .before .before .before .pre .1 .1; deeper = deeper; planned = c .before .plan .ensures; handed = c .hand-down .ensures }
+  descent : (c : lts.After-hand-to-children (calls t) (at-measure t) trace-level.Post) (below : ℕ) → c .before .before .before .before .before .args .depth ≡ suc below → Descends c below
+  descent c below deeper = record { fits = c .before .before .before .before .before .pre .1 .1; deeper = deeper; planned = c .before .plan .ensures; handed = c .hand-to-children .ensures }
 
   -- the level is further below the children, or that of the grandchildren
-  further : (c : lts.After-hand-down (calls t) (at-measure t) trace-level.Post) → 2 < c .before .before .before .before .before .args .depth → Descends c (c .before .before .before .before .before .args .depth - 1)
+  further : (c : lts.After-hand-to-children (calls t) (at-measure t) trace-level.Post) → 2 < c .before .before .before .before .before .args .depth → Descends c (c .before .before .before .before .before .args .depth - 1)
   further c more = descent c (c .before .before .before .before .before .args .depth - 1) (omega arith)
 
-  last : (c : lts.After-hand-down (calls t) (at-measure t) trace-level.Post) → c .before .before .before .before .before .args .depth ≤ 2 → Descends c 1
+  last : (c : lts.After-hand-to-children (calls t) (at-measure t) trace-level.Post) → c .before .before .before .before .before .args .depth ≤ 2 → Descends c 1
   last c least = descent c 1 (omega (arith, c .before .before .before .before .before .pre .1 .0))
 
   -- the height falls: a level that is below a node is no further down than the node is high
-  falling : (c : lts.After-hand-down (calls t) (at-measure t) trace-level.Post) → 2 < c .before .before .before .before .before .args .depth → c .before .before .before .before .before .args .height - 1 < t
+  falling : (c : lts.After-hand-to-children (calls t) (at-measure t) trace-level.Post) → 2 < c .before .before .before .before .before .args .depth → c .before .before .before .before .before .args .height - 1 < t
   falling c more =
       let start = c .before .before .before .before .before in
       omega (arith, start .pre .0, start .pre .1 .1 .in-subtree)
@@ -66,8 +66,8 @@ module _ (t : ℕ) where
   plan-requires : lts.Need-plan-requires (calls t) (at-measure t) trace-level.Post
   plan-requires c κs = search needs
 
-  hand-down-requires : lts.Need-hand-down-requires (calls t) (at-measure t) trace-level.Post
-  hand-down-requires c κs = let fits = c .before .before .before .before .pre .1 .1 in handing (c .plan .ensures) (fits .stretch) (fits .in-set)
+  hand-to-children-requires : lts.Need-hand-to-children-requires (calls t) (at-measure t) trace-level.Post
+  hand-to-children-requires c κs = let fits = c .before .before .before .before .pre .1 .1 in handing (c .plan .ensures) (fits .stretch) (fits .in-set)
 
   mul-trace-level : lts.Need-mul-trace-level (calls t) (at-measure t) trace-level.Post
   mul-trace-level c = search needs
@@ -209,7 +209,7 @@ pub +trace-level-spec : {M : Type 1} → statement M
     (load-requires t)
     (returns t)
     (plan-requires t)
-    (hand-down-requires t)
+    (hand-to-children-requires t)
     (mul-trace-level t)
     (sub-trace-level t)
     (part-trace-level-start t)

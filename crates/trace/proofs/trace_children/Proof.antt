@@ -9,15 +9,15 @@ use Rattle.trace.proofs.trace_children.Tie as tie
 plan-requires : tie.Need-plan-requires
 plan-requires c κs = search needs
 
-hand-down-requires : tie.Need-hand-down-requires
-hand-down-requires c κs = let fits = c .before .before .pre in handing (c .plan .ensures) (fits .stretch) (fits .in-set)
+hand-to-children-requires : tie.Need-hand-to-children-requires
+hand-to-children-requires c κs = let fits = c .before .before .pre in handing (c .plan .ensures) (fits .stretch) (fits .in-set)
 
 -- what holds once the values that the children hand on are known
-descent : (c : tie.After-hand-down) → let args = c .before .before .before .args in
+descent : (c : tie.After-hand-to-children) → let args = c .before .before .before .args in
     let parts = c .before .plan .result in
     Descent (args .scratch .now) (args .height) 1 0 (args .node) (args .value) (args .nodes .now) (args .values .now) (args .count) (parts .half) (parts .own) (parts .middle) (parts .end)
-    (c .hand-down .result .left) (c .hand-down .result .right)
-descent c = record { fits = c .before .before .before .pre; deeper = refl; planned = c .before .plan .ensures; handed = c .hand-down .ensures }
+    (c .hand-to-children .result .left) (c .hand-to-children .result .right)
+descent c = record { fits = c .before .before .before .pre; deeper = refl; planned = c .before .plan .ensures; handed = c .hand-to-children .ensures }
 
 mul-write-term : tie.Need-mul-write-term
 mul-write-term c = search needs
@@ -48,7 +48,7 @@ trace-children-spec =
     tie.close
     (tie.spec
     plan-requires
-    hand-down-requires
+    hand-to-children-requires
     mul-write-term
     write-term-requires
     mul-write-term-2

@@ -1,10 +1,10 @@
--- `building_run::turned_away::build_in` is safe: every part has as many places as were asked for.
+-- `building_run::build_in` is safe: every part has as many places as were asked for.
 use mathlib.Core.Path.{sym, _∙_}
 use native.Mathlib.Omega.{arith}
 use lib.Seq.{length-take-le}
 use borrow.Author.Needs.{needs}
-use Rattle.building_run.proofs.turned_away.build_in.Statement.{statement}
-use Rattle.building_run.proofs.turned_away.build_in.Tie as tie
+use Rattle.building_run.proofs.build_in.Statement.{statement}
+use Rattle.building_run.proofs.build_in.Tie as tie
 
 slice-relend-prefix-build-synopsis : tie.Need-slice-relend-prefix-build-synopsis
 slice-relend-prefix-build-synopsis c = search needs

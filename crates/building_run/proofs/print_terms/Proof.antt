@@ -1,8 +1,8 @@
--- `building_run::building::print_terms` is safe and ends.
+-- `building_run::print_terms` is safe and ends.
 use Prim.Native.Nat.{_-_, _≤_}
 use borrow.Author.Needs.{needs}
-use Rattle.building_run.proofs.building.print_terms.Statement.{statement}
-use Rattle.building_run.proofs.building.print_terms.Tie as tie
+use Rattle.building_run.proofs.print_terms.Statement.{statement}
+use Rattle.building_run.proofs.print_terms.Tie as tie
 
 abbrev Inv-loop : tie.InvT-loop
 Inv-loop nodes values count i₀ i = i ≤ count

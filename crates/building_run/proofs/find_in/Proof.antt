@@ -1,10 +1,10 @@
--- `building_run::turned_away::find_in` is safe: the part has as many places as were asked for.
+-- `building_run::find_in` is safe: the part has as many places as were asked for.
 use mathlib.Core.Path.{sym}
 use native.Mathlib.Omega.{arith}
 use lib.Seq.{length-take-le}
 use borrow.Author.Needs.{needs}
-use Rattle.building_run.proofs.turned_away.find_in.Statement.{statement}
-use Rattle.building_run.proofs.turned_away.find_in.Tie as tie
+use Rattle.building_run.proofs.find_in.Statement.{statement}
+use Rattle.building_run.proofs.find_in.Tie as tie
 
 slice-relend-prefix-least-band : tie.Need-slice-relend-prefix-least-band
 slice-relend-prefix-least-band c = search needs

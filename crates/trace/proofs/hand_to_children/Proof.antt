@@ -1,12 +1,12 @@
--- `trace::hand_down` meets its contract: a sum of numbers says whether the children's sets meet, and a test of one set says which child's the value is in.
+-- `trace::hand_to_children` meets its contract: a sum of numbers says whether the children's sets meet, and a test of one set says which child's the value is in.
 use mathlib.Core.Path.{sym, _∙_}
 use Prim.Native.Nat.{_+_, _<_}
 use native.Mathlib.Omega.{arith}
 use borrow.Author.Needs.{needs}
 use Rattle.windows.specs.Scratch.{at}
 use Rattle.trace.proofs.Siblings.{handed-to-both, handed-to-left, handed-to-right}
-use Rattle.trace.proofs.hand_down.Statement.{statement}
-use Rattle.trace.proofs.hand_down.Tie as tie
+use Rattle.trace.proofs.hand_to_children.Statement.{statement}
+use Rattle.trace.proofs.hand_to_children.Tie as tie
 
 load-requires : tie.Need-load-requires
 load-requires c κs = search needs
@@ -67,8 +67,8 @@ returns-3 c =
     rw (c .load6 .ensures .0)
     (handed-to-right (counted .before .before .before .before .before .pre) (apart counted) (rw (counted .load4 .ensures .0) at (sym (c .before .before .is-covered .ensures) ∙ c .before .if2 .left)))
 
-pub hand-down-spec : {M : Type 1} → statement M
-hand-down-spec =
+pub hand-to-children-spec : {M : Type 1} → statement M
+hand-to-children-spec =
     tie.close
     (tie.spec
     load-requires
