@@ -15,6 +15,7 @@ use Rattle.bits.specs.Signed.{complement}
 use Rattle.histogram.specs.Restored.{restoredSlot}
 use Rattle.histogram.specs.Errors.{greatestError}
 use Rattle.record.specs.Record.{slotsIn, bandIn, restIn, termsIn}
+use Rattle.record_check.specs.declared.CheckAnswer.{CheckAnswer}
 use Rattle.record_check.specs.Checking.{checkRefusal, kept, lowestBeyond, SlotRead, Checked}
 use Rattle.build.specs.declared.LeastBandAnswer.{LeastBandAnswer}
 use Rattle.build.specs.LeastBand.{LeastBandFound}
@@ -50,22 +51,20 @@ pub against-refused : (bytes text : List ℕ) (refusal : ℕ) → refusal ≡ te
 against-refused bytes text refusal is wrong =
     rw (← is, first-counts refusal (checkRefusal (setpointsOf text) bytes) wrong) (refused-result refusal _ _ _ wrong)
 
-checked-packed : (profile : List ℤ) (bytes : List ℕ) (refusal : ℕ) (is-kept : Bool) (error slot : ℕ) → Checked profile bytes refusal is-kept error slot
-    → packedFields refusal (1 when is-kept) error slot
-    ≡ result refusal (1 when kept profile (restIn bytes) (termsIn bytes) (bandIn bytes))
+checked-packed : (profile : List ℤ) (bytes : List ℕ) (answer : CheckAnswer) (refusal : ℕ) → answer .refusal ≡ refusal → Checked profile bytes answer
+    → packedFields (answer .refusal) (1 when answer .kept) (answer .error) (answer .slot)
+    ≡ result (answer .refusal) (1 when kept profile (restIn bytes) (termsIn bytes) (bandIn bytes))
     (cond (kept profile (restIn bytes) (termsIn bytes) (bandIn bytes)) (greatestError profile (restIn bytes) (termsIn bytes)) 0)
     (cond (kept profile (restIn bytes) (termsIn bytes) (bandIn bytes)) 0 (lowestBeyond profile (restIn bytes) (termsIn bytes) (bandIn bytes)))
-checked-packed profile bytes zero is-kept error slot checked =
-    let verdict = checked .verdict refl in
-    rw (verdict .error-is, verdict .slot-is, verdict .kept-is)
-checked-packed profile bytes (suc refusal) is-kept error slot checked =
-    let nothing = checked .nothing (λ none. omega arith) in
-    rw (nothing .0, nothing .1, nothing .2)
+checked-packed profile bytes answer zero is checked =
+    let verdict = checked .verdict is in
+    rw (is, verdict .error-is, verdict .slot-is, verdict .kept-is)
+checked-packed profile bytes answer (suc refusal) is checked = rw (checked .nothing (omega arith), is)
 
-pub against-packed : (bytes text : List ℕ) (profile : List ℤ) (refusal : ℕ) (is-kept : Bool) (error slot : ℕ) → textRefusal text ≡ 0 → profile ≡ setpointsOf text
-    → Checked profile bytes refusal is-kept error slot → packedFields refusal (1 when is-kept) error slot ≡ againstTextResult bytes text
-against-packed bytes text profile refusal is-kept error slot right profile-is checked =
-    rw (right, ← profile-is, ← checked .refusal-is) (checked-packed profile bytes refusal is-kept error slot checked)
+pub against-packed : (bytes text : List ℕ) (profile : List ℤ) (answer : CheckAnswer) → textRefusal text ≡ 0 → profile ≡ setpointsOf text
+    → Checked profile bytes answer → packedFields (answer .refusal) (1 when answer .kept) (answer .error) (answer .slot) ≡ againstTextResult bytes text
+against-packed bytes text profile answer right profile-is checked =
+    rw (right, ← profile-is, ← checked .refusal-is) (checked-packed profile bytes answer (answer .refusal) refl checked)
 
 -- ---- the least band of a text
 

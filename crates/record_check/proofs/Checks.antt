@@ -15,35 +15,36 @@ use Rattle.record.specs.Answers.{recordRefusal}
 use Rattle.record_read.specs.declared.HeaderAnswer.{HeaderAnswer}
 use Rattle.record_read.specs.Inner.{RoomRead}
 use Rattle.record_read.proofs.Accepted as Accepted
-use Rattle.record_check.specs.Checking.{checkRefusal, Verdict, Checked}
+use Rattle.record_check.specs.declared.CheckAnswer.{CheckAnswer}
+use Rattle.record_check.specs.Checking.{checkRefusal, checkRefused, Verdict, Checked}
 use Rattle.record_check.specs.Inner.{Judgeable}
 use Rattle.record_check.proofs.Slots.{sound, room-terms}
 
 module _ (profile : List ℤ) (bytes : List ℕ) where
-  refused-as : (refusal : ℕ) → 0 < refusal → checkRefusal profile bytes ≡ refusal → Checked profile bytes refusal false 0 0
-  refused-as refusal wrong is = record { refusal-is = sym is; verdict = λ none. absurd (omega arith); nothing = λ _. (refl, refl, refl) }
+  refused-as : (refusal : ℕ) → 0 < refusal → checkRefusal profile bytes ≡ refusal → Checked profile bytes (checkRefused refusal)
+  refused-as refusal wrong is = record { refusal-is = sym is; verdict = λ none. absurd (omega arith); nothing = λ _. refl }
 
-  pub no-profile : outsideSlots (length profile) ≡ true → Checked profile bytes 4 false 0 0
+  pub no-profile : outsideSlots (length profile) ≡ true → Checked profile bytes (checkRefused 4)
   no-profile outside = refused-as 4 (omega arith) (rw outside)
 
   module _ (inside : outsideSlots (length profile) ≡ false) where
-    pub record-wrong : (refusal : ℕ) → refusal ≡ recordRefusal bytes → 0 < refusal → Checked profile bytes refusal false 0 0
+    pub record-wrong : (refusal : ℕ) → refusal ≡ recordRefusal bytes → 0 < refusal → Checked profile bytes (checkRefused refusal)
     record-wrong refusal is wrong = refused-as refusal wrong (rw (inside, ← is) (first-counts refusal _ wrong))
 
     module _ (right : recordRefusal bytes ≡ 0) where
-      pub setpoint-wrong : anyBeyond profile ≡ true → Checked profile bytes 2 false 0 0
+      pub setpoint-wrong : anyBeyond profile ≡ true → Checked profile bytes (checkRefused 2)
       setpoint-wrong far = refused-as 2 (omega arith) (rw (inside, right, far))
 
       module _ (near : anyBeyond profile ≡ false) where
-        pub other-length : (slotsIn bytes ≡ length profile → ⊥) → Checked profile bytes 9 false 0 0
+        pub other-length : (slotsIn bytes ≡ length profile → ⊥) → Checked profile bytes (checkRefused 9)
         other-length differ = refused-as 9 (omega arith) (rw (inside, right, near, ne-eqb (slotsIn bytes) (length profile) differ))
 
-        pub verdict-given : slotsIn bytes ≡ length profile → (is-kept : Bool) (error slot : ℕ)
-            → Verdict profile (restIn bytes) (termsIn bytes) (bandIn bytes) is-kept error slot → Checked profile bytes 0 is-kept error slot
-        verdict-given same is-kept error slot verdict = record {
-          refusal-is = sym (rw (inside, right, near, eq-eqb (slotsIn bytes) (length profile) same));
+        pub verdict-given : slotsIn bytes ≡ length profile → (answer : CheckAnswer) → answer .refusal ≡ 0
+            → Verdict profile (restIn bytes) (termsIn bytes) (bandIn bytes) (answer .kept) (answer .error) (answer .slot) → Checked profile bytes answer
+        verdict-given same answer none verdict = record {
+          refusal-is = none ∙ sym (rw (inside, right, near, eq-eqb (slotsIn bytes) (length profile) same));
           verdict = λ _. verdict;
-          nothing = λ other. absurd (other refl);
+          nothing = λ wrong. absurd (omega arith);
         }
 
 -- what judging asks, of a record in the room

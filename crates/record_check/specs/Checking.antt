@@ -3,7 +3,7 @@
 use mathlib.Core.Path.{_≡_}
 use mathlib.Core.Bool.{Bool, true, false, not, cond, _&&_}
 use mathlib.Core.List.{List}
-use Prim.Native.Nat.{ℕ, zero, suc}
+use Prim.Native.Nat.{ℕ, zero, suc, _<_}
 use lib.Dec.{leb, ltb, eqb}
 use lib.IntN.{ℤ, pos}
 use lib.ListN.{length}
@@ -14,6 +14,7 @@ use Rattle.histogram.specs.Restored.{restoredSlot}
 use Rattle.histogram.specs.Errors.{slotError, slotsOf, bandAt, greatestError}
 use Rattle.record.specs.Record.{slotsIn, bandIn, restIn, termsIn}
 use Rattle.record.specs.Answers.{recordRefusal}
+use Rattle.record_check.specs.declared.CheckAnswer.{CheckAnswer}
 
 -- "One slot: the record's without 6, then 10"
 abbrev pub recordSlotRefusal : List ℕ → ℕ → ℕ
@@ -47,6 +48,10 @@ kept profile rest terms band = every (λ slot. leb (slotError profile rest terms
 abbrev pub lowestBeyond : List ℤ → ℤ → List Term → ℕ → ℕ
 lowestBeyond profile rest terms band = lowest (λ slot. ltb (bandAt band slot) (slotError profile rest terms slot)) (slotsOf profile)
 
+-- a refusal, "with 0 for all other results": not kept, and no number
+abbrev pub checkRefused : ℕ → CheckAnswer
+checkRefused refusal = record { refusal = refusal; kept = false; error = 0; slot = 0 }
+
 -- a verdict on a synopsis: kept with the greatest error, or not kept with the lowest slot; "the other number is 0"
 pub record Verdict (profile : List ℤ) (rest : ℤ) (terms : List Term) (band : ℕ) (is-kept : Bool) (error slot : ℕ) : Type 0 where
   pub kept-is : is-kept ≡ kept profile rest terms band
@@ -54,7 +59,7 @@ pub record Verdict (profile : List ℤ) (rest : ℤ) (terms : List Term) (band :
   pub slot-is : slot ≡ cond is-kept 0 (lowestBeyond profile rest terms band)
 
 -- the answer of the check: the verdict by the record's band and rest value, and nothing on a refusal
-pub record Checked (profile : List ℤ) (bytes : List ℕ) (refusal : ℕ) (is-kept : Bool) (error slot : ℕ) : Type 0 where
-  pub refusal-is : refusal ≡ checkRefusal profile bytes
-  pub verdict : refusal ≡ 0 → Verdict profile (restIn bytes) (termsIn bytes) (bandIn bytes) is-kept error slot
-  pub nothing : (refusal ≡ 0 → ⊥) → (is-kept ≡ false) × (error ≡ 0) × (slot ≡ 0)
+pub record Checked (profile : List ℤ) (bytes : List ℕ) (answer : CheckAnswer) : Type 0 where
+  pub refusal-is : answer .refusal ≡ checkRefusal profile bytes
+  pub verdict : answer .refusal ≡ 0 → Verdict profile (restIn bytes) (termsIn bytes) (bandIn bytes) (answer .kept) (answer .error) (answer .slot)
+  pub nothing : 0 < answer .refusal → answer ≡ checkRefused (answer .refusal)

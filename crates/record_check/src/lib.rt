@@ -6,10 +6,9 @@ use histogram::terms::padded_length;
 use limits::smaller;
 use record_read::read_into_room;
 ghost use mathlib.Core.Path.{_≡_};
-ghost use mathlib.Core.Bool.{false};
 ghost use Prim.Native.Nat.{max};
 ghost use Rattle.histogram.specs.Terms.{paired};
-ghost use Rattle.record_check.specs.Checking.{SlotRead, Checked, Verdict};
+ghost use Rattle.record_check.specs.Checking.{SlotRead, checkRefused, Checked, Verdict};
 ghost use Rattle.record_check.specs.Inner.{Comparable, Compared, InSlot, ErrorIs, Judgeable};
 
 // The setpoint restored in one slot of a record.
@@ -45,7 +44,7 @@ pub struct CheckAnswer {
 
 // Checks setpoints against a record.
 pub fn check_record(setpoints: &[i16], bytes: &[u8]) -> CheckAnswer
-    ensures { λ r. ⌜ Checked (now (setpoints .entry)) (now (bytes .entry)) (r .refusal) (r .kept) (r .error) (r .slot) ⌝ }
+    ensures { λ r. ⌜ Checked (now (setpoints .entry)) (now (bytes .entry)) r ⌝ }
 {
     if limits::is_outside_slots(setpoints.len()) {
         return refused(limits::SLOTS_BEYOND);
@@ -130,7 +129,7 @@ fn larger(one: u32, other: u32) -> u32
 }
 
 fn refused(refusal: u8) -> CheckAnswer
-    ensures { λ r. ⌜ (r .refusal ≡ refusal) × (r .kept ≡ false) × (r .error ≡ 0) × (r .slot ≡ 0) ⌝ }
+    ensures { λ r. ⌜ r ≡ checkRefused refusal ⌝ }
 {
     CheckAnswer {
         refusal: refusal,

@@ -14,7 +14,7 @@ ghost use mathlib.Core.Path.{_≡_};
 ghost use Prim.Native.Nat.{_^_, _≤_, _<_};
 ghost use lib.IntN.{natAbs};
 ghost use lib.ListN.{length};
-ghost use Rattle.claims.specs.Inner.{lifted};
+ghost use Rattle.claims.specs.Inner.{lifted, lowered};
 ghost use Rattle.windows.specs.Scratch.{at};
 ghost use Rattle.subtree.specs.Answer.{slotWindows};
 ghost use Rattle.subtree.specs.Stretch.{places, Solvable, Solved, Planned, Combinable, CombinedAt, Headed, Counted};
@@ -65,6 +65,14 @@ pub fn lift(value: i32) -> usize
     ensures { λ r. ⌜ (r ≡ lifted value) × (r ≤ 40000) ⌝ }
 {
     (value + 20000) as usize
+}
+
+// A number of 0 to 40,000 as the value that it was lifted from.
+pub fn lower(number: usize) -> i16
+    requires { ⌜ number ≤ 40000 ⌝ }
+    ensures { λ r. ⌜ r ≡ lowered number ⌝ }
+{
+    (number as i32 - 20000) as i16
 }
 
 // Writes an answer's number, and how many windows it has.

@@ -1,4 +1,4 @@
--- What is chosen at a node, and what it hands on: its lowest value is the first number of the first window, at most 40,000, and is written lowered by 20,000.
+-- What is chosen at a node, and what it hands on: its lowest value is the first number of the first window, at most 40,000.
 use mathlib.Core.Path.{_≡_, refl, sym, ap, _∙_}
 use mathlib.Core.Bool.{Bool, true, false, cond, true≢false}
 use mathlib.Core.Option.{none, some}
@@ -6,17 +6,10 @@ use mathlib.Core.List.{List, [], _∷_}
 use Prim.Native.Nat.{ℕ, zero, suc, _+_, _≤_}
 use native.Mathlib.Omega.{arith}
 use lib.Dec.{T}
-use lib.IntN.{ℤ, pos, _-ℤ_}
+use lib.IntN.{ℤ}
 use lib.ListN.{length}
 use borrow.Author.Tests.{eq-eqb, ne-eqb}
-use mir.Syntax.{w16, w32}
-use mir.Val.{SFits, toZ, ofZ}
-use mir.Facts.{sfits-widen}
-use mir.ValLaws.{toZ-pos}
-use Rattle.limits.proofs.Signed.{within-fits, narrower-fits, narrower}
 use Rattle.fewest.specs.Node.{placed}
-use Rattle.claims.specs.Inner.{lowered}
-use Rattle.claims.proofs.Lifted.{lowered-within}
 use Rattle.windows.specs.Windows.{Window, covers, Sorted}
 use Rattle.windows.specs.Scratch.{at, windowsAt}
 use Rattle.windows.proofs.Sets.{first-within, first-inside}
@@ -84,17 +77,3 @@ lowest-at read place (suc count) filled = refl
 module _ {scratch : List ℤ} {place : ℕ} (there : Answered scratch place) where
   pub lowest-there : lowest (setAt scratch place) ≡ at scratch (place + 2)
   lowest-there = lowest-at (at scratch) (place + 2) (at scratch (place + 1)) (there .not-empty)
-
--- a number of 0 to 40,000 lowered in 32 bits, and as an element
-module _ (number : ℕ) (within : number ≤ 40000) where
-  lowered-in-32 : toZ w32 number -ℤ pos 20000 ≡ lowered number
-  lowered-in-32 = rw (toZ-pos w32 number (omega arith))
-
-  pub lowered-fits : SFits w32 (toZ w32 number -ℤ pos 20000)
-  lowered-fits = rw lowered-in-32 (sfits-widen {w = w16} tt (within-fits (lowered number) (lowered-within number within)))
-
-  pub element-fits : SFits w16 (toZ w32 (ofZ w32 (toZ w32 number -ℤ pos 20000)))
-  element-fits = narrower-fits lowered-fits (rw lowered-in-32 (lowered-within number within))
-
-  pub element-is : toZ w16 (ofZ w16 (toZ w32 (ofZ w32 (toZ w32 number -ℤ pos 20000)))) ≡ lowered number
-  element-is = narrower lowered-fits (rw lowered-in-32 (lowered-within number within)) ∙ lowered-in-32

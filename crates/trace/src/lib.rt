@@ -1,5 +1,6 @@
 // Tracing: the walk that reads the solved scratch from the root down and writes the terms of a smallest synopsis.
 // A node hands on to its children the value that comes in where that is in the node's set, else the lowest value of the set, and then it has a term.
+use subtree::lower;
 use subtree::plan;
 use windows::is_covered;
 use windows::load;
@@ -153,7 +154,7 @@ fn write_term(
         return count;
     }
     nodes[count] = node as u16;
-    values[count] = (next as i32 - 20000) as i16;
+    values[count] = lower(next);
     count + 1
 }
 

@@ -60,7 +60,7 @@ returns-2 c =
     let of-text = held (read .ensures) (omega arith) in
     c .pack2 .ensures
     ∙ rw (c .before .before .before .number-of .ensures)
-    (against-packed (args .bytes .now) (args .text .now) _ (checked .result .refusal) (checked .result .kept) (checked .result .error) (checked .result .slot) (of-text .not-refused)
+    (against-packed (args .bytes .now) (args .text .now) _ (checked .result) (of-text .not-refused)
     (of-text .setpoints-are) (checked .ensures))
 
 pub panel-record-against-text-spec : {M : Type 1} → statement M

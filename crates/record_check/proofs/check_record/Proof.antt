@@ -29,7 +29,7 @@ returns : tie.Need-returns
 returns c =
     let a = c .before .before .before .before .args in
     let r = c .refused .ensures in
-    rw (r .0, r .1, r .2, r .3) (Checks.no-profile (a .setpoints .now) (a .bytes .now) (sym (c .before .before .is-outside-slots .ensures) ∙ c .before .if1 .taken))
+    rw r (Checks.no-profile (a .setpoints .now) (a .bytes .now) (sym (c .before .before .is-outside-slots .ensures) ∙ c .before .if1 .taken))
 
 slice-aggregate-read-into-room : tie.Need-slice-aggregate-read-into-room
 slice-aggregate-read-into-room c = search needs
@@ -47,7 +47,7 @@ returns-2 : tie.Need-returns-2
 returns-2 c =
     let a = c .before .before .before .before .before .before .before .before .before .before .before .args in
     let r = c .refused2 .ensures in
-    rw (r .0, r .1, r .2, r .3)
+    rw r
     (Checks.record-wrong (a .setpoints .now) (a .bytes .now) (sym (c .before .before .before .before .before .before .before .before .before .is-outside-slots .ensures) ∙ c .before .before .before .before .before .before .before .before .if1 .left) _ (c .before .before .before .before .before .read-into-room .ensures .refusal-is) (c .before .if2 .taken))
 
 is-any-beyond-requires : tie.Need-is-any-beyond-requires
@@ -61,7 +61,7 @@ returns-3 c =
     let a = c .before .before .before .before .before .before .before .before .before .before .before .before .before .args in
     let r = c .refused3 .ensures in
     let right = Checks.record-right (a .setpoints .now) (c .before .before .before .before .before .before .before .read-into-room .ensures) (c .before .before .before .if2 .left) in
-    rw (r .0, r .1, r .2, r .3)
+    rw r
     (Checks.setpoint-wrong (a .setpoints .now) (a .bytes .now) (sym (c .before .before .before .before .before .before .before .before .before .before .before .is-outside-slots .ensures) ∙ c .before .before .before .before .before .before .before .before .before .before .if1 .left) right (sym (c .before .before .is-any-beyond .ensures) ∙ c .before .if3 .taken))
 
 refused-requires-4 : tie.Need-refused-requires-4
@@ -74,7 +74,7 @@ returns-4 c =
     let read = c .before .before .before .before .before .before .before .before .before .read-into-room .ensures in
     let right = Checks.record-right (a .setpoints .now) read (c .before .before .before .before .before .if2 .left) in
     let slots = Checks.slots-are (a .setpoints .now) read (c .before .before .before .before .before .if2 .left) in
-    rw (r .0, r .1, r .2, r .3)
+    rw r
     (Checks.other-length (a .setpoints .now) (a .bytes .now) (sym (c .before .before .before .before .before .before .before .before .before .before .before .before .before .is-outside-slots .ensures) ∙ c .before .before .before .before .before .before .before .before .before .before .before .before .if1 .left) right (sym (c .before .before .before .before .is-any-beyond .ensures) ∙ c .before .before .before .if3 .left)
     (λ same. c .before .if4 .taken (slots ∙ same)))
 
@@ -128,9 +128,8 @@ returns-5 c =
     let terms = Checks.terms-are (a .setpoints .now) read right in
     let slots = Checks.slots-are (a .setpoints .now) read right in
     let verdict = rw (narrower (rest-fits room) near, toZ-ofZ (band-fits room), band, rest, terms) at (c .judge .ensures .1) in
-    rw (c .judge .ensures .0)
-    (Checks.verdict-given (a .setpoints .now) (a .bytes .now) (sym (c .before .before .before .before .before .before .before .before .before .before .before .before .before .before .before .before .before .before .before .is-outside-slots .ensures) ∙ c .before .before .before .before .before .before .before .before .before .before .before .before .before .before .before .before .before .before .if1 .left)
-    (Checks.record-right (a .setpoints .now) read right) (sym (c .before .before .before .before .before .before .before .before .before .before .is-any-beyond .ensures) ∙ c .before .before .before .before .before .before .before .before .before .if3 .left) (sym slots ∙ c .before .before .before .before .before .before .before .if4 .left) _ _ _ verdict)
+    Checks.verdict-given (a .setpoints .now) (a .bytes .now) (sym (c .before .before .before .before .before .before .before .before .before .before .before .before .before .before .before .before .before .before .before .is-outside-slots .ensures) ∙ c .before .before .before .before .before .before .before .before .before .before .before .before .before .before .before .before .before .before .if1 .left)
+    (Checks.record-right (a .setpoints .now) read right) (sym (c .before .before .before .before .before .before .before .before .before .before .is-any-beyond .ensures) ∙ c .before .before .before .before .before .before .before .before .before .if3 .left) (sym slots ∙ c .before .before .before .before .before .before .before .if4 .left) (c .judge .result) (c .judge .ensures .0) verdict
 
 pub check-record-spec : {M : Type 1} → statement M
 check-record-spec =

@@ -4,13 +4,15 @@ use native.Mathlib.Omega.{arith}
 use lib.ListN.{length}
 use borrow.Author.Tests.{eq-eqb, ne-eqb}
 use borrow.Author.Needs.{needs}
-use Rattle.trace.proofs.Chosen.{lowered-fits, element-fits, element-is}
+use mir.Syntax.{w16}
+use mir.Val.{SFits}
+use mir.Facts.{toZ-ofZ}
 use Rattle.trace.proofs.Traced.{none-appended, one-appended}
 use Rattle.trace.proofs.write_term.Statement.{statement}
 use Rattle.trace.proofs.write_term.Tie as tie
 
 returns : tie.Need-returns
-returns c = rw (eq-eqb (c .before .args .next) (c .before .args .value) (c .if1 .taken)) (none-appended _ _ _)
+returns c = rw (eq-eqb (c .before .before .args .next) (c .before .before .args .value) (c .if1 .taken)) (none-appended _ _ _)
 
 cast-nodes : tie.Need-cast-nodes
 cast-nodes c = search needs
@@ -19,26 +21,20 @@ mul-nodes : tie.Need-mul-nodes
 mul-nodes c = search needs
 
 -- another value is handed on, so there is room for a term
-room : (c : tie.Else1) → c .before .args .count < length (c .before .args .nodes .now)
-room c = omega (arith, rw (ne-eqb (c .before .args .next) (c .before .args .value) (c .if1 .left)) at (c .before .pre .room))
+room : (c : tie.Else1) → c .before .before .args .count < length (c .before .before .args .nodes .now)
+room c = omega (arith, rw (ne-eqb (c .before .before .args .next) (c .before .before .args .value) (c .if1 .left)) at (c .before .before .pre .room))
 
 slice-write-nodes : tie.Need-slice-write-nodes
 slice-write-nodes c = room c
 
-cast-values : tie.Need-cast-values
-cast-values c = search needs
-
-sub-values : tie.Need-sub-values
-sub-values c = lowered-fits (c .before .args .next) (c .before .pre .next-within)
-
-cast-values-2 : tie.Need-cast-values-2
-cast-values-2 c = element-fits (c .before .args .next) (c .before .pre .next-within)
+lower-requires : tie.Need-lower-requires
+lower-requires c κs = search needs
 
 mul-t9 : tie.Need-mul-t9
 mul-t9 c = search needs
 
 slice-set-from-values : tie.Need-slice-set-from-values
-slice-set-from-values c = omega (arith, room c, c .before .pre .same-room)
+slice-set-from-values c = omega (arith, room (c .before), c .before .before .before .pre .same-room)
 
 add-result : tie.Need-add-result
 add-result c = search needs
@@ -51,9 +47,11 @@ same-length-2 c = search needs
 
 returns-2 : tie.Need-returns-2
 returns-2 c =
-    let args = c .before .args in
-    rw (ne-eqb (args .next) (args .value) (c .if1 .left), element-is (args .next) (c .before .pre .next-within))
-    (one-appended _ (args .nodes .now) (args .values .now) (args .count) (room c) (c .before .pre .same-room))
+    let start = c .before .before .before in
+    let args = start .args in
+    let fits : SFits w16 (c .lower .result) = search needs in
+    rw (ne-eqb (args .next) (args .value) (c .before .if1 .left), toZ-ofZ fits, c .lower .ensures)
+    (one-appended _ (args .nodes .now) (args .values .now) (args .count) (room (c .before)) (start .pre .same-room))
 
 pub write-term-spec : {M : Type 1} → statement M
 write-term-spec =
@@ -63,9 +61,7 @@ write-term-spec =
     cast-nodes
     mul-nodes
     slice-write-nodes
-    cast-values
-    sub-values
-    cast-values-2
+    lower-requires
     mul-t9
     slice-set-from-values
     add-result
