@@ -1,4 +1,4 @@
-// Records written and read, one slot, and the check.
+// Records written and read, and what the check refuses.
 use printing::print;
 use printing::print_bytes;
 use printing::print_call;
@@ -8,7 +8,6 @@ use printing::print_refusal;
 use printing::print_setpoint;
 use record_check::CheckAnswer;
 use record_check::check_record;
-use record_check::read_slot;
 use record_read::HeaderAnswer;
 use record_read::read_record;
 use record_write::WriteAnswer;
@@ -24,7 +23,7 @@ pub fn run() {
     reading();
     lengths();
     greatest_length();
-    checking();
+    refused_checks();
 }
 
 fn writing() {
@@ -35,17 +34,7 @@ fn writing() {
 
 fn reading() {
     document();
-    document_slots();
-    malformed();
-    wrong_headers();
-    wrong_terms();
     terms_without_places();
-}
-
-fn checking() {
-    checks();
-    refused_checks();
-    filler_in_error();
 }
 
 fn written() {
@@ -83,42 +72,6 @@ fn document() {
     read(b"document 01's record", &bytes);
     read(b"it without its last byte", &bytes[..10]);
     read(b"its first six bytes", &bytes[..6]);
-}
-
-// Each of its slots, the one past the last, and that one without its last byte.
-fn document_slots() {
-    let bytes = RECORD;
-    slot(&bytes, 0);
-    slot(&bytes, 1);
-    slot(&bytes, 2);
-    slot(&bytes, 3);
-    slot(&bytes, 4);
-    slot(&bytes[..10], 4);
-}
-
-fn malformed() {
-    let version = [32u8, 24, 0, 200, 43, 192, 2, 1, 131, 219, 128];
-    read(b"version 2", &version);
-    let fill = [16u8, 24, 0, 200, 43, 192, 2, 1, 131, 219, 129];
-    read(b"fill not zero", &fill);
-}
-
-fn wrong_headers() {
-    let rest = [16u8, 24, 0, 202, 113, 8, 0];
-    read(b"a rest value beyond the limit", &rest);
-    let band = [16u8, 28, 226, 8, 0, 0, 0];
-    read(b"a band beyond the limit", &band);
-}
-
-fn wrong_terms() {
-    let twice = [16u8, 24, 0, 200, 0, 0, 4, 1, 128, 0, 128, 96, 0, 64];
-    read(b"a node twice", &twice);
-    let past = [16u8, 24, 0, 200, 0, 0, 2, 4, 0, 0, 128];
-    read(b"a node past the last", &past);
-    let zero = [16u8, 24, 0, 200, 0, 0, 2, 0, 0, 0, 128];
-    read(b"node 0", &zero);
-    let beyond = [16u8, 24, 0, 200, 0, 0, 2, 0, 167, 16, 128];
-    read(b"a value beyond the limit", &beyond);
 }
 
 fn terms_without_places() {
@@ -181,15 +134,6 @@ fn print_term(node: u16, value: i16) {
     print(b"\n");
 }
 
-// Checks against document 01's record.
-fn checks() {
-    let bytes = RECORD;
-    let own = [1410i16, 1390, 2000, 1950];
-    check(b"its own profile", &own, &bytes);
-    let above = [1410i16, 1374, 2000, 2001];
-    check(b"errors above the band", &above, &bytes);
-}
-
 // In each refusal every later check would fail too, so the order shows.
 fn refused_checks() {
     let bytes = RECORD;
@@ -199,13 +143,6 @@ fn refused_checks() {
     check(b"a short record", &far, &bytes[..10]);
     check(b"a setpoint beyond the limit", &far, &bytes);
     check(b"another length", &three, &bytes);
-}
-
-// Three slots and one of filler: it carries the last setpoint, and the term at its node is 30 below that.
-fn filler_in_error() {
-    let bytes = [16u8, 16, 0, 200, 43, 192, 4, 3, 3, 219, 128, 224, 243, 32];
-    let three = [1400i16, 1400, 1975];
-    check(b"a filler slot in error", &three, &bytes);
 }
 
 // The header, then the refusal's number, the count of bytes and the destination, which held 255 in every place.
@@ -246,14 +183,6 @@ fn print_read(header: HeaderAnswer) {
     print_refusal(header.refusal);
     print_header(b" ", header.slots, header.band, header.rest);
     print_count_after(b" ", header.count);
-}
-
-fn slot(bytes: &[u8], asked: usize) {
-    let answer = read_slot(bytes, asked);
-    print_count_after(b"its slot ", asked);
-    print_refusal(answer.refusal);
-    print_setpoint(answer.setpoint);
-    print(b"\n");
 }
 
 fn check(what: &[u8], setpoints: &[i16], bytes: &[u8]) {
