@@ -1,7 +1,7 @@
 -- The two round trips of demand 2, for every header and every list of terms, and for every byte string.
 -- Both rest on those of any layout and of any list of entries, `Layouts` and `Entries`: a header is a layout at the front, and the terms are entries of another behind it.
 use mathlib.Core.Path.{_≡_, sym, ap, ap₂, _∙_}
-use mathlib.Core.Bool.{Bool, true, false, not, _&&_, true≢false}
+use mathlib.Core.Bool.{Bool, true, not, _&&_}
 use mathlib.Core.List.{List, [], _∷_, _++_, append-assoc}
 use Prim.Native.Nat.{ℕ, _+_, _*_, _-_, _^_, _≤_, _<_}
 use native.Mathlib.Omega.{arith}
@@ -25,7 +25,7 @@ use Rattle.bits.proofs.Complement.{complement-reads-back, complement-fits}
 use Rattle.histogram.specs.declared.Term.{Term}
 use Rattle.histogram.specs.Tree.{padded}
 use Rattle.histogram.specs.Terms.{valid}
-use Rattle.histogram.proofs.Ascent.{ValidFrom, first-above, first-below, first-within, rest-valid, valid-few}
+use Rattle.histogram.proofs.Ascent.{ValidFrom, first-below, first-within, rest-valid, valid-few}
 use Rattle.histogram.proofs.Powers.{height-reaches, padded-bound}
 use Rattle.record.specs.Layout.{layoutWidth, layoutNumbers, held}
 use Rattle.record.specs.Record.{Header, headerLayout, termLayout, headerBits, termBits, termsBits, recordBits, termsEnd, recordLength, recordBytes, headerNumbers, versionIn, slotsIn, bandIn, restIn, countIn, termIn, termsFrom, termsIn, fillIn, wellFormed}

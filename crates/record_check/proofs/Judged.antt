@@ -1,21 +1,19 @@
 -- From the values handed down to all nodes to the verdict: the slots' part of them is what a synopsis restores.
 use mathlib.Core.Path.{_≡_, ap, _∙_}
-use mathlib.Core.Bool.{Bool, true, false, cond}
+use mathlib.Core.Bool.{Bool, cond}
 use mathlib.Core.Logic.{⊎-elim}
-use mathlib.Core.List.{List, [], _∷_}
-use Prim.Native.Nat.{ℕ, zero, suc, _+_, _*_, _-_, _/_, _≤_, _<_, min}
+use mathlib.Core.List.{List}
+use Prim.Native.Nat.{ℕ, _+_, _*_, _-_, _≤_, _<_, min}
 use native.Mathlib.Omega.{arith}
-use lib.Dec.{leb, ltb, eqb}
+use lib.Dec.{leb, ltb}
 use lib.IntN.{ℤ, pos, natAbs, _-ℤ_}
 use lib.ListN.{length, getD, take, drop, length-take, length-drop, List·getD-eq-default}
 use lib.Seq.{getD-take, getD-drop}
 use Rattle.limits.proofs.Beyond.{within-all}
-use Rattle.histogram.specs.declared.Term.{Term}
 use Rattle.histogram.specs.Tree.{padded}
-use Rattle.histogram.specs.Terms.{paired, termOr}
-use Rattle.histogram.specs.Restored.{restored, restoredAt, restoredSlot, pathNodes}
+use Rattle.histogram.specs.Terms.{paired}
+use Rattle.histogram.specs.Restored.{restoredAt, restoredSlot, pathNodes}
 use Rattle.histogram.specs.Errors.{setpointOf, slotError}
-use Rattle.histogram.proofs.Ascent.{ValidFrom, first-within, rest-valid}
 use Rattle.histogram.proofs.Order.{below-or-not}
 use Rattle.histogram.proofs.Powers.{padded-bound}
 use Rattle.histogram.proofs.Within.{restored-within}

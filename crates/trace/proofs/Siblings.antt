@@ -1,7 +1,7 @@
 -- Two children of a node and a value in the node's set: where the children's sets meet the value is in both, else it is in one of the two.
 -- So the children's numbers and one test say what both hand on, and no node below one whose number is 0 has a term: `no-terms`.
 use mathlib.Core.Path.{_≡_, refl, sym, ap, subst, _∙_}
-use mathlib.Core.Bool.{Bool, true, false, not, _&&_, _||_, false≢true}
+use mathlib.Core.Bool.{Bool, true, false, not, _||_, false≢true}
 use mathlib.Core.List.{List, [], _∷_}
 use Prim.Native.Nat.{ℕ, zero, suc, _+_, _*_, _^_, _≤_, _<_}
 use native.Mathlib.Omega.{arith}
