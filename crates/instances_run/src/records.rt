@@ -34,6 +34,9 @@ fn writing() {
 
 fn reading() {
     document();
+    malformed();
+    wrong_headers();
+    wrong_terms();
     terms_without_places();
 }
 
@@ -72,6 +75,31 @@ fn document() {
     read(b"document 01's record", &bytes);
     read(b"it without its last byte", &bytes[..10]);
     read(b"its first six bytes", &bytes[..6]);
+}
+
+fn malformed() {
+    let version = [32u8, 24, 0, 200, 43, 192, 2, 1, 131, 219, 128];
+    read(b"version 2", &version);
+    let fill = [16u8, 24, 0, 200, 43, 192, 2, 1, 131, 219, 129];
+    read(b"fill not zero", &fill);
+}
+
+fn wrong_headers() {
+    let rest = [16u8, 24, 0, 202, 113, 8, 0];
+    read(b"a rest value beyond the limit", &rest);
+    let band = [16u8, 28, 226, 8, 0, 0, 0];
+    read(b"a band beyond the limit", &band);
+}
+
+fn wrong_terms() {
+    let twice = [16u8, 24, 0, 200, 0, 0, 4, 1, 128, 0, 128, 96, 0, 64];
+    read(b"a node twice", &twice);
+    let past = [16u8, 24, 0, 200, 0, 0, 2, 4, 0, 0, 128];
+    read(b"a node past the last", &past);
+    let zero = [16u8, 24, 0, 200, 0, 0, 2, 0, 0, 0, 128];
+    read(b"node 0", &zero);
+    let beyond = [16u8, 24, 0, 200, 0, 0, 2, 0, 167, 16, 128];
+    read(b"a value beyond the limit", &beyond);
 }
 
 fn terms_without_places() {

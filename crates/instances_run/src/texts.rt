@@ -9,6 +9,9 @@ use profile::read_profile;
 
 pub fn run() {
     document();
+    limits();
+    malformed();
+    lines();
     short();
 }
 
@@ -22,6 +25,19 @@ fn document() {
     );
     show(b"a setpoint at the limit", b"0\n0\n200,00\n");
     show(b"a setpoint beyond it", b"0\n0\n200,01\n");
+}
+
+// Rest values and bands beyond their limits.
+fn limits() {
+    show(b"a rest value beyond it", b"999,01\n");
+    show(b"a negative band", b"0\n-0,01\n0\n");
+    show(b"a band beyond 400,00", b"0\n400,01\n0\n");
+}
+
+fn malformed() {
+    show(b"the last line unended", b"0\n0\n999");
+    show(b"an empty line", b"0\n\n0\n");
+    show(b"a setpoint that is no number", b"0\n0\n0\n1.450\n");
 }
 
 // What it is, then the refusal's number, the rest value, the band, the number of slots and the destination's first two places.
@@ -50,4 +66,28 @@ fn short() {
     print_refusal(answer.refusal);
     print_setpoint(setpoints[0]);
     print(b"\n");
+}
+
+// Texts of lines of one digit.
+fn lines() {
+    let mut just_enough = [b'0'; 1028];
+    show_lines(b"512 slots", &mut just_enough);
+    let mut a_line_more = [b'0'; 1030];
+    show_lines(b"513 slots", &mut a_line_more);
+    let mut a_byte_more = [b'0'; 1029];
+    show_lines(b"512 slots and a byte", &mut a_byte_more);
+}
+
+fn show_lines(what: &[u8], text: &mut [u8]) {
+    end_lines(text);
+    show(what, text);
+}
+
+// Ends a line after every other byte.
+fn end_lines(text: &mut [u8]) {
+    let mut i = 1;
+    while i < text.len() {
+        text[i] = 10;
+        i += 2;
+    }
 }

@@ -1,6 +1,6 @@
 // Building into a slice of terms. In each refusal every later check would fail too, so the order shows. Every lent place holds 9 before a call.
 use crate::calls;
-use crate::lists::zero_terms;
+use crate::lists::marked_places;
 use crate::print_built;
 use crate::print_terms;
 use printing::print;
@@ -102,7 +102,7 @@ fn one_number_changed() {
 fn build(what: &[u8], setpoints: &[i16], rest: i32, band: i32, places: usize, scratch: &mut [i16])
     requires { ⌜ places ≤ 1100 ⌝ }
 {
-    let built = calls::build(setpoints, rest, band, zero_terms(), places, scratch);
+    let built = calls::build(setpoints, rest, band, marked_places(), places, scratch);
     let answer = built.answer;
     let terms = built.terms;
     print_call(b"build ", what);

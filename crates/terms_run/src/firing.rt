@@ -5,7 +5,7 @@ use crate::calls::restore_profile;
 use crate::calls::restore_slot;
 use crate::calls::write_record;
 use crate::end_with_terms;
-use crate::lists::zero_terms;
+use crate::lists::marked_places;
 use crate::print_built;
 use crate::print_header;
 use crate::print_written;
@@ -20,7 +20,7 @@ use printing::print_setpoints;
 pub fn run() {
     let setpoints = [1410i16, 1390, 2000, 1950];
     let mut scratch = [9i16; 12288];
-    let built = build(&setpoints, 1400, 25, zero_terms(), 4, &mut scratch);
+    let built = build(&setpoints, 1400, 25, marked_places(), 4, &mut scratch);
     let terms = built.terms;
     print(b"the firing is built");
     print_built(built.answer);
@@ -40,7 +40,7 @@ fn write(terms: [Term; 1100]) {
 }
 
 fn read(bytes: &[u8]) {
-    let read = read_record(bytes, zero_terms(), 4);
+    let read = read_record(bytes, marked_places(), 4);
     let terms = read.terms;
     print(b"read back");
     print_header(read.header);

@@ -2,7 +2,7 @@
 use histogram::Term;
 
 // A destination: every place holds the term 9:9.
-pub fn zero_terms() -> [Term; 1100] {
+pub fn marked_places() -> [Term; 1100] {
     let term = Term { node: 9, value: 9 };
     [term; 1100]
 }

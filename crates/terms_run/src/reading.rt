@@ -1,7 +1,7 @@
 // Records read into a slice of terms. In each refusal every later check would fail too, so the order shows. Every place of the destination holds 9:9 before a call.
 use crate::calls::read_record;
 use crate::end_with_terms;
-use crate::lists::zero_terms;
+use crate::lists::marked_places;
 use crate::print_header;
 use printing::print_call;
 ghost use Prim.Native.Nat.{_≤_};
@@ -78,7 +78,7 @@ fn places() {
 fn read(what: &[u8], bytes: &[u8], places: usize)
     requires { ⌜ places ≤ 1100 ⌝ }
 {
-    let read = read_record(bytes, zero_terms(), places);
+    let read = read_record(bytes, marked_places(), places);
     let terms = read.terms;
     print_call(b"read ", what);
     print_header(read.header);
