@@ -1,8 +1,10 @@
 -- From what was built over the tree to a best synopsis of the profile, handed over.
 use mathlib.Core.Path.{_≡_, refl, sym, ap, ap₂, subst, _∙_}
+use mathlib.Core.Bool.{false}
 use mathlib.Core.List.{List}
 use Prim.Native.Nat.{ℕ, _-_, _≤_, _<_}
 use native.Mathlib.Omega.{arith}
+use lib.Dec.{T}
 use lib.IntN.{ℤ}
 use lib.ListN.{length, take, drop, length-map}
 use Rattle.limits.proofs.Laying.{front-of, past-front}
@@ -111,10 +113,11 @@ module _ (profile : List ℤ) (rest : ℤ) (budget : ℕ) (scratch : List ℤ) (
   needed-here : (band : ℕ) → termsFor band (height (length profile)) (leaves profile room) (lifted rest) ≡ fewestTerms profile rest band
   needed-here = needed-at near (acceptable .few-slots) room long filled
 
-  pub tree-searchable : Searchable 40000 (height (length profile)) (lifted rest) budget (leaves profile room) scratch
+  pub tree-searchable : Searchable 40000 (height (length profile)) (lifted rest) budget false (leaves profile room) scratch
   tree-searchable = record {
     solvable = leaves-solvable near (acceptable .few-slots) room long filled 40000 (omega arith) scratch (acceptable .scratch-long);
     enough = omega (arith, needed-here 40000, widest-needs-none near);
+    in-scratch = λ wrong. absurd (subst T (sym wrong) tt);
   }
 
   pub least-found : (band : ℕ) → LeastWithin 40000 (height (length profile)) (lifted rest) budget (leaves profile room) band

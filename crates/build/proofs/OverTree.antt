@@ -1,5 +1,6 @@
 -- Building over a tree: the count for the band gives the budget of the search, and the band found the terms to trace.
 use mathlib.Core.Path.{_≡_, subst}
+use mathlib.Core.Bool.{true}
 use mathlib.Core.List.{List}
 use Prim.Native.Nat.{ℕ}
 use native.Mathlib.Omega.{arith}
@@ -26,8 +27,8 @@ module _ (band height value : ℕ) (setpoints : List ℤ) (nodes : List ℕ) (va
       }
 
   pub searchable : (later : List ℤ) (budget : ℕ) → length later ≡ length before → Counted height value (slotWindows band setpoints) later budget
-      → Searchable band height value budget setpoints later
-  searchable later budget same-length counted = record { solvable = solvable-later later same-length; enough = omega (arith, counted .count-is) }
+      → Searchable band height value budget true setpoints later
+  searchable later budget same-length counted = record { solvable = solvable-later later same-length; enough = omega (arith, counted .count-is); in-scratch = λ _. counted .solved }
 
   pub levels-fit : (later : List ℤ) (error : ℕ) → length later ≡ length before → Solved height (slotWindows error setpoints) (at later) → LevelsFit later height value nodes values
   levels-fit later error same-length solved = record {

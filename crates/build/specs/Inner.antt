@@ -1,6 +1,6 @@
 -- What inner functions ask and promise. A reader of the promises need not open this file.
 use mathlib.Core.Path.{_≡_}
-use mathlib.Core.Bool.{false}
+use mathlib.Core.Bool.{Bool, true, false}
 use mathlib.Core.List.{List}
 use Prim.Native.Nat.{ℕ, suc, _-_, _≤_, _<_}
 use lib.IntN.{ℤ, pos}
@@ -11,8 +11,9 @@ use Rattle.histogram.specs.Errors.{setpointOf, greatestError}
 use Rattle.claims.specs.Inner.{InRange}
 use Rattle.claims.specs.Best.{Best}
 use Rattle.histogram.specs.declared.Term.{Term}
+use Rattle.windows.specs.Scratch.{at}
 use Rattle.subtree.specs.Answer.{slotWindows, termsFor}
-use Rattle.subtree.specs.Stretch.{Solvable}
+use Rattle.subtree.specs.Stretch.{Solvable, Solved}
 use Rattle.trace.specs.Trace.{upperTerms, Traced}
 use Rattle.build.specs.declared.BuildAnswer.{BuildAnswer}
 use Rattle.build.specs.Building.{valuesRefusal, handedOver}
@@ -25,16 +26,29 @@ pub record Filled (profile setpoints : List ℤ) : Type 0 where
 abbrev pub tracedFor : (band height : ℕ) → List ℤ → (value : ℕ) → List Term
 tracedFor band height setpoints value = upperTerms (suc height) height (slotWindows band setpoints) value
 
--- a tree whose terms for the widest band are within a budget
-pub record Searchable (top height value budget : ℕ) (setpoints scratch : List ℤ) : Type 0 where
+-- a tree whose terms for the widest band are within a budget, and whether scratch holds every node's answer for that band
+pub record Searchable (top height value budget : ℕ) (solved : Bool) (setpoints scratch : List ℤ) : Type 0 where
   pub solvable : Solvable top height setpoints scratch
   pub enough : termsFor top height setpoints value ≤ budget
+  pub in-scratch : solved ≡ true → Solved height (slotWindows top setpoints) (at scratch)
 
 -- the least band up to `top` whose terms are within the budget
 pub record LeastWithin (top height value budget : ℕ) (setpoints : List ℤ) (least : ℕ) : Type 0 where
   pub within-top : least ≤ top
   pub enough : termsFor least height setpoints value ≤ budget
   pub narrower-not : 0 < least → budget < termsFor (least - 1) height setpoints value
+
+-- that band was found, and whether scratch holds every node's answer for it
+pub record BandFound (top height value budget : ℕ) (setpoints before after : List ℤ) (least : ℕ) (solved : Bool) : Type 0 where
+  pub least-within : LeastWithin top height value budget setpoints least
+  pub same-length : length after ≡ length before
+  pub in-scratch : solved ≡ true → Solved height (slotWindows least setpoints) (at after)
+
+-- that band was found, and scratch holds every node's answer for it
+pub record LeastSolved (top height value budget : ℕ) (setpoints before after : List ℤ) (least : ℕ) : Type 0 where
+  pub least-within : LeastWithin top height value budget setpoints least
+  pub same-length : length after ≡ length before
+  pub in-scratch : Solved height (slotWindows least setpoints) (at after)
 
 -- a tree with a stretch of scratch, and room for the terms that it needs for any band
 pub record TreeFits (band height value : ℕ) (setpoints : List ℤ) (nodes : List ℕ) (values scratch : List ℤ) : Type 0 where

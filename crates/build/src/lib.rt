@@ -44,7 +44,7 @@ pub fn build_synopsis(
             error: 0,
         };
     }
-    build_best(setpoints, rest, band as usize, nodes, values, scratch)
+    build_best(setpoints, rest, band as u32, nodes, values, scratch)
 }
 
 // The number that refuses building; 0 for none.
@@ -94,7 +94,7 @@ fn is_scratch_short(numbers: usize) -> bool
 fn build_best(
     setpoints: &[i16],
     rest: i32,
-    band: usize,
+    band: u32,
     nodes: &mut [u16],
     values: &mut [i16],
     scratch: &mut [i16],
@@ -135,7 +135,7 @@ pub fn least_band(setpoints: &[i16], rest: i32, budget: u32, scratch: &mut [i16]
     }
     LeastBandAnswer {
         refusal: 0,
-        band: least_band_of(setpoints, rest, budget as usize, scratch),
+        band: least_band_of(setpoints, rest, budget, scratch),
     }
 }
 
@@ -157,7 +157,7 @@ fn refuse_least_band(setpoints: &[i16], rest: i32, budget: u32, numbers: usize) 
 }
 
 // Finds it where nothing is refused. Every profile keeps the band 400,00 with no term.
-fn least_band_of(setpoints: &[i16], rest: i32, budget: usize, scratch: &mut [i16]) -> u16
+fn least_band_of(setpoints: &[i16], rest: i32, budget: u32, scratch: &mut [i16]) -> u16
     requires { ⌜ Acceptable (now setpoints) rest (now scratch) ⌝ }
     ensures { λ r. ⌜ LeastBand (now (setpoints .entry)) rest budget r ⌝ }
 {
@@ -167,6 +167,14 @@ fn least_band_of(setpoints: &[i16], rest: i32, budget: usize, scratch: &mut [i16
     let padded = size.padded;
     let height = size.height;
     let value = lift(rest);
-    let band = least_band_within(&room[..padded], value, budget, 40000, scratch, height);
-    band as u16
+    let found = least_band_within(
+        &room[..padded],
+        value,
+        budget,
+        40000,
+        scratch,
+        height,
+        false,
+    );
+    found.band as u16
 }

@@ -11,7 +11,7 @@ ghost use Rattle.build.specs.Inner.{Filled};
 // The slots of a tree, filler slots too, and its height.
 pub struct TreeSize {
     pub padded: usize,
-    pub height: usize,
+    pub height: u32,
 }
 
 // The tree over a number of slots; its height is the level of its first leaf.
@@ -22,7 +22,7 @@ pub fn tree_over(slots: usize) -> TreeSize
     let leaves = padded_length(slots);
     TreeSize {
         padded: leaves,
-        height: level(leaves as u16) as usize,
+        height: level(leaves as u16) as u32,
     }
 }
 

@@ -3,20 +3,28 @@ use subtree::count_terms;
 use subtree::solve;
 use trace::trace;
 ghost use mathlib.Core.Path.{_≡_};
+ghost use mathlib.Core.Bool.{true};
 ghost use lib.ListN.{length};
-ghost use Rattle.build.specs.Inner.{Searchable, LeastWithin, TreeFits, TreeBuilt};
+ghost use Rattle.build.specs.Inner.{Searchable, BandFound, LeastSolved, TreeFits, TreeBuilt};
 
-// The least band up to `top` for which the tree needs no more terms than the budget, by halving.
+// The band that a search found, and whether scratch holds every node's answer for it.
+pub struct FoundBand {
+    pub band: u32,
+    pub solved: bool,
+}
+
+// The least band up to `top` for which the tree needs no more terms than the budget, by halving; `solved` says whether scratch holds every node's answer for `top`.
 pub fn least_band_within(
     setpoints: &[i16],
-    value: usize,
-    budget: usize,
-    top: usize,
+    value: u32,
+    budget: u32,
+    top: u32,
     scratch: &mut [i16],
-    height: usize,
-) -> usize
-    requires { ⌜ Searchable top height value budget (now setpoints) (now scratch) ⌝ }
-    ensures { λ r. ⌜ LeastWithin top height value budget (now (setpoints .entry)) r × (length (now (scratch .exit)) ≡ length (now (scratch .entry))) ⌝ }
+    height: u32,
+    mut solved: bool,
+) -> FoundBand
+    requires { ⌜ Searchable top height value budget solved (now setpoints) (now scratch) ⌝ }
+    ensures { λ r. ⌜ BandFound top height value budget (now (setpoints .entry)) (now (scratch .entry)) (now (scratch .exit)) (r .band) (r .solved) ⌝ }
 {
     let mut low = 0;
     let mut high = top;
@@ -25,36 +33,60 @@ pub fn least_band_within(
         let count = count_terms(setpoints, middle, value, scratch, height);
         if count <= budget {
             high = middle;
+            solved = true;
         } else {
             low = middle + 1;
+            solved = false;
         }
     }
-    high
+    FoundBand {
+        band: high,
+        solved: solved,
+    }
+}
+
+// The least band up to `top` for which the tree needs no more terms than the budget; scratch, which holds every node's answer for `top`, then holds those for that band.
+fn solve_least_band(
+    setpoints: &[i16],
+    value: u32,
+    budget: u32,
+    top: u32,
+    scratch: &mut [i16],
+    height: u32,
+) -> u32
+    requires { ⌜ Searchable top height value budget true (now setpoints) (now scratch) ⌝ }
+    ensures { λ r. ⌜ LeastSolved top height value budget (now (setpoints .entry)) (now (scratch .entry)) (now (scratch .exit)) r ⌝ }
+{
+    let found = least_band_within(setpoints, value, budget, top, scratch, height, true);
+    if found.solved {
+        return found.band;
+    }
+    solve(setpoints, found.band, scratch, height);
+    found.band
 }
 
 // What was built over a tree.
 pub struct TreeAnswer {
     pub count: usize,
-    pub error: usize,
+    pub error: u32,
 }
 
-// Counts the terms for the band, searches the least band of as many, solves the tree for it and traces the terms.
+// Counts the terms for the band, searches and solves for the least band of as many, and traces the terms.
 pub fn build_tree(
     setpoints: &[i16],
-    value: usize,
-    band: usize,
+    value: u32,
+    band: u32,
     nodes: &mut [u16],
     values: &mut [i16],
     scratch: &mut [i16],
-    height: usize,
+    height: u32,
 ) -> TreeAnswer
     requires { ⌜ TreeFits band height value (now setpoints) (now nodes) (now values) (now scratch) ⌝ }
     ensures { λ r. ⌜ TreeBuilt band height value (now (setpoints .entry)) (now (nodes .entry)) (now (nodes .exit)) (now (values .entry)) (now (values .exit)) (r .count) (r .error)
         × (length (now (scratch .exit)) ≡ length (now (scratch .entry))) ⌝ }
 {
     let budget = count_terms(setpoints, band, value, scratch, height);
-    let error = least_band_within(setpoints, value, budget, band, scratch, height);
-    solve(setpoints, error, scratch, height);
+    let error = solve_least_band(setpoints, value, budget, band, scratch, height);
     let count = trace(scratch, height, value, nodes, values);
     TreeAnswer {
         count: count,

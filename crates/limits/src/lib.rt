@@ -51,7 +51,14 @@ pub fn smaller(one: usize, other: usize) -> usize
     if one < other { one } else { other }
 }
 
-pub fn larger(one: usize, other: usize) -> usize
+// The same in 32 bits, for values: the panel's core takes two instructions or more for each sum and comparison in 64.
+pub fn lesser(one: u32, other: u32) -> u32
+    ensures { λ r. ⌜ r ≡ min one other ⌝ }
+{
+    if one < other { one } else { other }
+}
+
+pub fn greater(one: u32, other: u32) -> u32
     ensures { λ r. ⌜ r ≡ max one other ⌝ }
 {
     if one < other { other } else { one }

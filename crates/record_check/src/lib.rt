@@ -3,10 +3,10 @@ use histogram::restore::SlotAnswer;
 use histogram::restore::hand_down;
 use histogram::restore::restore_checked_slot;
 use histogram::terms::padded_length;
+use limits::greater;
 use limits::smaller;
 use record_read::read_into_room;
 ghost use mathlib.Core.Path.{_≡_};
-ghost use Prim.Native.Nat.{max};
 ghost use Rattle.histogram.specs.Terms.{paired};
 ghost use Rattle.record_check.specs.Checking.{SlotRead, checkRefused, Checked, Verdict};
 ghost use Rattle.record_check.specs.Inner.{Comparable, Compared, InSlot, ErrorIs, Judgeable};
@@ -100,7 +100,7 @@ fn compare(setpoints: &[i16], restored: &[i16], band: u32) -> CheckAnswer
                 slot: slot as u16,
             };
         }
-        greatest = larger(greatest, error);
+        greatest = greater(greatest, error);
         slot += 1;
     }
     CheckAnswer {
@@ -120,12 +120,6 @@ fn error_in(setpoints: &[i16], restored: &[i16], slot: usize) -> u32
     let setpoint = setpoints[place];
     let value = restored[slot];
     limits::magnitude(setpoint as i32 - value as i32)
-}
-
-fn larger(one: u32, other: u32) -> u32
-    ensures { λ r. ⌜ r ≡ max one other ⌝ }
-{
-    if one < other { other } else { one }
 }
 
 fn refused(refusal: u8) -> CheckAnswer

@@ -10,7 +10,7 @@ use Rattle.windows.specs.Windows.{Window, covers, Sorted}
 use Rattle.windows.specs.Scratch.{at, windowsAt}
 use Rattle.subtree.specs.Answer.{Answer, slotWindows, answer, needed}
 use Rattle.subtree.specs.Stretch.{answerAt, Solved, Solvable, Counted}
-use Rattle.subtree.proofs.Places.{own-first}
+use Rattle.subtree.proofs.Places.{own-first, places-within}
 use Rattle.subtree.proofs.Slots.{windows-usable}
 use Rattle.subtree.proofs.Answers.{answer-sorted, answer-bounded}
 use Rattle.subtree.proofs.Solving.{solved-top, count-of}
@@ -18,6 +18,7 @@ use Rattle.subtree.proofs.Solving.{solved-top, count-of}
 -- the answer at the front of a stretch lies within it, and its windows are sorted
 pub record Front (scratch : List ℤ) : Type 0 where
   pub fits : 2 + 2 * at scratch 1 ≤ length scratch
+  pub few : 2 + 2 * at scratch 1 ≤ 65536
   pub sorted : Sorted 0 (windowsAt (at scratch) 2 (at scratch 1))
 
 module _ (band height : ℕ) (setpoints before scratch : List ℤ) (solvable : Solvable band height setpoints before)
@@ -31,6 +32,8 @@ module _ (band height : ℕ) (setpoints before scratch : List ℤ) (solvable : S
   pub front : Front scratch
   front = record {
     fits = omega (arith, solvable .room, own-first height, count-of (at scratch) 0 (answer height leaves) top, answer-bounded height leaves .few);
+    few =
+        omega (arith, own-first height, places-within height (solvable .in-tree), count-of (at scratch) 0 (answer height leaves) top, answer-bounded height leaves .few);
     sorted = subst (λ (one : Answer). Sorted 0 (one .windows)) (sym top) (answer-sorted (windows-usable band (solvable .setpoints-within)) height);
   }
 

@@ -24,9 +24,9 @@ headed before number count long number-small count-small =
     }
 
 -- the four stores of an answer of one window
-module _ (before : List ℤ) (place low high : ℕ) (long : place + 4 ≤ length before) (low-small : low ≤ 65535) (high-small : high ≤ 65535) where
+module _ (before : List ℤ) (place number low high : ℕ) (long : place + 4 ≤ length before) (number-small : number ≤ 65535) (low-small : low ≤ 65535) (high-small : high ≤ 65535) where
   abbrev numbered : List ℤ
-  numbered = set before place (signed 0)
+  numbered = set before place (signed number)
 
   abbrev counted : List ℤ
   counted = set numbered (place + 1) (signed 1)
@@ -37,10 +37,10 @@ module _ (before : List ℤ) (place low high : ℕ) (long : place + 4 ≤ length
   abbrev ended : List ℤ
   ended = set begun (place + 3) (signed high)
 
-  number-at : at ended place ≡ 0
+  number-at : at ended place ≡ number
   number-at =
       at-set-other begun (place + 3) high place (λ same. omega arith) ∙ at-set-other counted (place + 2) low place (λ same. omega arith)
-      ∙ at-set-other numbered (place + 1) 1 place (λ same. omega arith) ∙ at-set-same before place 0 (omega arith) (omega arith)
+      ∙ at-set-other numbered (place + 1) 1 place (λ same. omega arith) ∙ at-set-same before place number (omega arith) number-small
 
   count-at : at ended (place + 1) ≡ 1
   count-at =
@@ -56,13 +56,13 @@ module _ (before : List ℤ) (place low high : ℕ) (long : place + 4 ≤ length
   elsewhere : (other : ℕ) → (other ≡ place → ⊥) → (other ≡ place + 1 → ⊥) → (other ≡ place + 2 → ⊥) → (other ≡ place + 3 → ⊥) → at ended other ≡ at before other
   elsewhere other not-number not-count not-low not-high =
       at-set-other begun (place + 3) high other not-high ∙ at-set-other counted (place + 2) low other not-low
-      ∙ at-set-other numbered (place + 1) 1 other not-count ∙ at-set-other before place 0 other not-number
+      ∙ at-set-other numbered (place + 1) 1 other not-count ∙ at-set-other before place number other not-number
 
-  answer-at : answerAt (at ended) place ≡ single low high
+  answer-at : answerAt (at ended) place ≡ single number low high
   unfolding windowsAt
   answer-at = rw (number-at, count-at, low-at, high-at)
 
-  pub single-at : SingleAt place low high before ended
+  pub single-at : SingleAt place number low high before ended
   single-at = record {
     answer-is = answer-at;
     before-same = λ other below. elsewhere other (λ same. omega arith) (λ same. omega arith) (λ same. omega arith) (λ same. omega arith);
@@ -70,7 +70,7 @@ module _ (before : List ℤ) (place low high : ℕ) (long : place + 4 ≤ length
   }
 
 -- the stores of two windows behind their header
-module _ (before header : List ℤ) (first-low first-high second-low second-high : ℕ) (long : 6 ≤ length header) (head : Headed 1 2 before header)
+module _ (before header : List ℤ) (number first-low first-high second-low second-high : ℕ) (long : 6 ≤ length header) (head : Headed number 2 before header)
     (first-low-small : first-low ≤ 65535) (first-high-small : first-high ≤ 65535) (second-low-small : second-low ≤ 65535) (second-high-small : second-high ≤ 65535) where
   abbrev first-begun : List ℤ
   first-begun = set header 2 (signed first-low)
@@ -105,17 +105,17 @@ module _ (before header : List ℤ) (first-low first-high second-low second-high
   second-high-at : at second-ended 5 ≡ second-high
   second-high-at = at-set-same second-begun 5 second-high (simp length-set (omega arith)) second-high-small
 
-  header-number : at second-ended 0 ≡ 1
+  header-number : at second-ended 0 ≡ number
   header-number = around 0 (λ same. omega arith) (λ same. omega arith) (λ same. omega arith) (λ same. omega arith) ∙ head .number-is
 
   header-count : at second-ended 1 ≡ 2
   header-count = around 1 (λ same. omega arith) (λ same. omega arith) (λ same. omega arith) (λ same. omega arith) ∙ head .count-is
 
-  both-at : answerAt (at second-ended) 0 ≡ record { number = 1; windows = record { low = first-low; high = first-high } ∷ record { low = second-low; high = second-high } ∷ [] }
+  both-at : answerAt (at second-ended) 0 ≡ record { number = number; windows = record { low = first-low; high = first-high } ∷ record { low = second-low; high = second-high } ∷ [] }
   unfolding windowsAt
   both-at = rw (header-number, header-count, first-low-at, first-high-at, second-low-at, second-high-at)
 
-  pub double-written : DoubleWritten first-low first-high second-low second-high before second-ended
+  pub double-written : DoubleWritten number first-low first-high second-low second-high before second-ended
   double-written = record {
     answer-is = both-at;
     behind-same = λ other above. around other (λ same. omega arith) (λ same. omega arith) (λ same. omega arith) (λ same. omega arith) ∙ head .others-same other (omega arith);
@@ -131,9 +131,9 @@ slot-ends band setpoint middle low high within middle-is low-is high-is = record
 }
 
 -- the answer of a leaf, by the ends of its slot's window
-pub leaf-is : (band : ℕ) (setpoint : ℤ) (low high : ℕ) → SlotEnds band setpoint low high → single low high ≡ answer 0 (slotWindow band setpoint ∷ [])
+pub leaf-is : (band : ℕ) (setpoint : ℤ) (low high : ℕ) → SlotEnds band setpoint low high → single 0 low high ≡ answer 0 (slotWindow band setpoint ∷ [])
 unfolding answer
-leaf-is band setpoint low high ends = ap₂ single (ends .low-is) (ends .high-is)
+leaf-is band setpoint low high ends = ap₂ (single 0) (ends .low-is) (ends .high-is)
 
-pub leaf-solved : (band : ℕ) (setpoint : ℤ) (low high : ℕ) (before after : List ℤ) → SlotEnds band setpoint low high → SingleAt 0 low high before after → LeafSolved (slotWindow band setpoint) after
+pub leaf-solved : (band : ℕ) (setpoint : ℤ) (low high : ℕ) (before after : List ℤ) → SlotEnds band setpoint low high → SingleAt 0 0 low high before after → LeafSolved (slotWindow band setpoint) after
 leaf-solved band setpoint low high before after ends written = record { answer-is = written .answer-is ∙ leaf-is band setpoint low high ends }

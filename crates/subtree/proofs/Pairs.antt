@@ -10,8 +10,8 @@ use borrow.Author.Tests.{le-leb, lt-leb, lt-ltb, le-ltb}
 use Rattle.windows.specs.Windows.{Window, meet, join}
 use Rattle.windows.specs.Scratch.{at}
 use Rattle.subtree.specs.Answer.{Answer, slotWindow, slotWindows, combined, answer}
-use Rattle.subtree.specs.Stretch.{places, answerAt, Solved, Halves, Planned}
-use Rattle.subtree.specs.Pair.{single, SlotEnds, SingleAt, DoubleWritten, LeavesCombined, PairSolved}
+use Rattle.subtree.specs.Stretch.{places, answerAt, Solved, Halves, Planned, above}
+use Rattle.subtree.specs.Pair.{oneWindow, single, SlotEnds, SingleAt, DoubleWritten, SinglesCombined, PairSolved}
 use Rattle.subtree.proofs.Places.{planned}
 use Rattle.subtree.proofs.LeafAnswers.{leaf-is}
 use Rattle.subtree.proofs.Solving.{count-of, answer-same, answer-shifted}
@@ -20,49 +20,52 @@ neither : (test : Bool) → cond {A = List Window} test [] [] ≡ []
 neither true = refl
 neither false = refl
 
--- the node's answer, where the leaves' windows meet and where they do not
-module _ (left-low left-high right-low right-high low high : ℕ) (low-is : low ≡ max left-low right-low) (high-is : high ≡ min left-high right-high) (before after : List ℤ) where
-  abbrev above : Answer
-  above = combined (single left-low left-high) (single right-low right-high)
+-- the node's answer, where two windows meet and where they do not
+module _ (numbers left-low left-high right-low right-high low high : ℕ) (low-is : low ≡ max left-low right-low) (high-is : high ≡ min left-high right-high) (before after : List ℤ) where
+  abbrev node : Answer
+  node = above numbers (oneWindow left-low left-high) (oneWindow right-low right-high)
 
-  both-met : low ≤ high → single low high ≡ above
+  sum : numbers + 0 ≡ numbers
+  sum = omega arith
+
+  both-met : low ≤ high → single numbers low high ≡ node
   unfolding meet
-  both-met met = rw (← low-is, ← high-is, le-leb low high met, neither)
+  both-met met = rw (← low-is, ← high-is, le-leb low high met, neither, sum)
 
-  pub leaves-meet : low ≤ high → SingleAt 0 low high before after → LeavesCombined left-low left-high right-low right-high before after
-  leaves-meet met written = record {
+  pub singles-meet : low ≤ high → SingleAt 0 numbers low high before after → SinglesCombined numbers left-low left-high right-low right-high before after
+  singles-meet met written = record {
     answer-is = written .answer-is ∙ both-met met;
     behind-same = λ other behind. written .behind-same other (omega arith);
   }
 
   right-first : high < low → right-low < left-low
-      → record { number = 1; windows = record { low = right-low; high = right-high } ∷ record { low = left-low; high = left-high } ∷ [] } ≡ above
+      → record { number = numbers + 1; windows = record { low = right-low; high = right-high } ∷ record { low = left-low; high = left-high } ∷ [] } ≡ node
   unfolding meet join
-  right-first apart lower = rw (← low-is, ← high-is, lt-leb low high apart, neither, lt-ltb right-low left-low lower)
+  right-first apart lower = rw (← low-is, ← high-is, lt-leb low high apart, neither, lt-ltb right-low left-low lower, sum)
 
-  pub right-lower : high < low → right-low < left-low → DoubleWritten right-low right-high left-low left-high before after
-      → LeavesCombined left-low left-high right-low right-high before after
+  pub right-lower : high < low → right-low < left-low → DoubleWritten (numbers + 1) right-low right-high left-low left-high before after
+      → SinglesCombined numbers left-low left-high right-low right-high before after
   right-lower apart lower written = record { answer-is = written .answer-is ∙ right-first apart lower; behind-same = written .behind-same }
 
   left-first : high < low → left-low ≤ right-low
-      → record { number = 1; windows = record { low = left-low; high = left-high } ∷ record { low = right-low; high = right-high } ∷ [] } ≡ above
+      → record { number = numbers + 1; windows = record { low = left-low; high = left-high } ∷ record { low = right-low; high = right-high } ∷ [] } ≡ node
   unfolding meet join
-  left-first apart lower = rw (← low-is, ← high-is, lt-leb low high apart, neither, le-ltb right-low left-low lower)
+  left-first apart lower = rw (← low-is, ← high-is, lt-leb low high apart, neither, le-ltb right-low left-low lower, sum)
 
-  pub left-lower : high < low → left-low ≤ right-low → DoubleWritten left-low left-high right-low right-high before after
-      → LeavesCombined left-low left-high right-low right-high before after
+  pub left-lower : high < low → left-low ≤ right-low → DoubleWritten (numbers + 1) left-low left-high right-low right-high before after
+      → SinglesCombined numbers left-low left-high right-low right-high before after
   left-lower apart lower written = record { answer-is = written .answer-is ∙ left-first apart lower; behind-same = written .behind-same }
 
 -- an answer of one window stays while the places that it stands at do
-still-single : (place low high : ℕ) (before written after : List ℤ) → SingleAt place low high before written
-    → ((other : ℕ) → place ≤ other → other < place + 4 → at after other ≡ at written other) → answerAt (at after) place ≡ single low high
+still-single : (place low high : ℕ) (before written after : List ℤ) → SingleAt place 0 low high before written
+    → ((other : ℕ) → place ≤ other → other < place + 4 → at after other ≡ at written other) → answerAt (at after) place ≡ single 0 low high
 still-single place low high before written after of-window same =
-    let one : at written (place + 1) ≤ 1 = omega (arith, count-of (at written) place (single low high) (of-window .answer-is)) in
+    let one : at written (place + 1) ≤ 1 = omega (arith, count-of (at written) place (single 0 low high) (of-window .answer-is)) in
     sym (answer-same (at written) (at after) place 1 one (λ other above below. sym (same other above (omega arith)))) ∙ of-window .answer-is
 
 pub pair-solved : (band : ℕ) (left right : ℤ) (left-low left-high right-low right-high : ℕ) (before first second after : List ℤ)
     → SlotEnds band left left-low left-high → SlotEnds band right right-low right-high
-    → SingleAt 6 left-low left-high before first → SingleAt 10 right-low right-high first second → LeavesCombined left-low left-high right-low right-high second after
+    → SingleAt 6 0 left-low left-high before first → SingleAt 10 0 right-low right-high first second → SinglesCombined 0 left-low left-high right-low right-high second after
     → PairSolved (slotWindow band left) (slotWindow band right) after
 unfolding Solved answer places
 pair-solved band left right left-low left-high right-low right-high before first second after left-ends right-ends of-left of-right of-both =

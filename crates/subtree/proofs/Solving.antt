@@ -9,15 +9,15 @@ use lib.Pow.{pow-mono}
 use lib.Seq.{length-take-le}
 use borrow.Rule.Slice.PartMut.{putMid, mid-len, same-len-mid}
 use Rattle.limits.proofs.Parts.{to-end}
-use Rattle.windows.specs.Windows.{Window}
+use Rattle.windows.specs.Windows.{Window, Sorted}
 use Rattle.windows.specs.Scratch.{at, windowsAt}
 use Rattle.windows.proofs.Reading.{windows-same, windows-shifted, windows-length}
 use Rattle.subtree.specs.Answer.{Answer, slotWindow, slotWindows, combined, answer}
-use Rattle.subtree.specs.Stretch.{ownPlaces, places, answerAt, Solved, Halves, Within, Solvable, Planned, LeafSolved, Combinable, CombinedAt}
+use Rattle.subtree.specs.Stretch.{ownPlaces, places, answerAt, Solved, Halves, Usable, Within, Solvable, Planned, LeafSolved, Combinable, CombinedAt}
 use Rattle.subtree.proofs.Places.{places-above, own-first}
 use Rattle.subtree.proofs.Lent.{in-part, before-part}
 use Rattle.subtree.proofs.Slots.{window-at}
-use Rattle.subtree.proofs.Answers.{Bounded, answer-bounded, within-take, within-drop}
+use Rattle.subtree.proofs.Answers.{Bounded, answer-bounded, answer-sorted, within-take, within-drop, usable-take, usable-drop}
 
 -- the answer of the node at the top
 pub solved-top : (height : ℕ) (leaves : List Window) (read : ℕ → ℕ) → Solved height leaves read → answerAt read 0 ≡ answer height leaves
@@ -81,8 +81,9 @@ module _ (height own middle : ℕ) (leaves : List Window) (both : List ℤ) (hal
       (answer-bounded height (drop (2 ^ height) leaves))
 
   -- they can be combined
-  pub combinable : own ≡ ownPlaces (suc height) → middle ≡ own + places height → middle + places height ≤ length both → height ≤ 8 → Combinable both own middle
-  combinable own-is middle-is fits in-tree =
+  pub combinable : Usable leaves → own ≡ ownPlaces (suc height) → middle ≡ own + places height → middle + places height ≤ length both → middle + places height ≤ 12286 → height ≤ 8
+      → Combinable both own middle
+  combinable usable own-is middle-is fits few in-tree =
       let power : 2 ^ height ≤ 2 ^ 8 = pow-mono in-tree in
       let lefts = windows-length (at both) (own + 2) (at both (own + 1)) in
       let rights = windows-length (at both) (middle + 2) (at both (middle + 1)) in
@@ -90,8 +91,16 @@ module _ (height own middle : ℕ) (leaves : List Window) (both : List ℤ) (hal
         room = omega (arith, left-bounded .few, right-bounded .few);
         apart = omega (arith, left-bounded .few, own-first height);
         within = omega (arith, right-bounded .few, own-first height);
+        near = omega (arith, right-bounded .few, own-first height);
         small = omega (arith, left-bounded .below, right-bounded .below);
-        few = omega (arith, left-bounded .few, right-bounded .few);
+        left-some = omega (arith, left-bounded .some);
+        right-some = omega (arith, right-bounded .some);
+        left-sorted =
+            subst (λ (one : Answer). Sorted 0 (one .windows)) (sym (child-answer height own (take (2 ^ height) leaves) (at both) (halves .left-solved)))
+            (answer-sorted (usable-take usable (2 ^ height)) height);
+        right-sorted =
+            subst (λ (one : Answer). Sorted 0 (one .windows)) (sym (child-answer height middle (drop (2 ^ height) leaves) (at both) (halves .right-solved)))
+            (answer-sorted (usable-drop usable (2 ^ height)) height);
       }
 
   -- and once they are, the stretch is solved
@@ -155,10 +164,10 @@ module _ (height half own middle end : ℕ) (leaves : List Window) (both : List 
       subst (λ (levels : ℕ). Solved levels leaves (at after)) (sym (planned .below))
       (node-solved (height - 1) own middle leaves both of-halves after (planned .own-is ∙ ap ownPlaces (planned .below)) (planned .middle-is) combined-at)
 
-  pub halves-combinable : height ≤ 9 → end ≤ length both → Combinable both own middle
-  halves-combinable in-tree fits =
-      combinable (height - 1) own middle leaves both of-halves (planned .own-is ∙ ap ownPlaces (planned .below)) (planned .middle-is)
-      (omega (arith, planned .end-is)) (omega arith)
+  pub halves-combinable : Usable leaves → height ≤ 9 → end ≤ length both → Combinable both own middle
+  halves-combinable usable in-tree fits =
+      combinable (height - 1) own middle leaves both of-halves usable (planned .own-is ∙ ap ownPlaces (planned .below)) (planned .middle-is)
+      (omega (arith, planned .end-is)) (omega (arith, planned .end-is, planned .few-places)) (omega arith)
 
 -- what solving asks of each half
 module _ (band height half own middle end : ℕ) (setpoints scratch : List ℤ) (planned : Planned height half own middle end) (solvable : Solvable band height setpoints scratch) where

@@ -72,18 +72,31 @@ pub record Headed (number count : ℕ) (before after : List ℤ) : Type 0 where
 pub record LeafSolved (leaf : Window) (scratch : List ℤ) : Type 0 where
   pub answer-is : answerAt (at scratch) 0 ≡ answer 0 (leaf ∷ [])
 
--- the answers of two children in one stretch, and room for the answer of the node above them
+-- the answers of two children in one stretch, below place 65,536, and room for the answer of the node above them
 pub record Combinable (scratch : List ℤ) (left right : ℕ) : Type 0 where
   pub room : 2 + 2 * (at scratch (left + 1) + at scratch (right + 1)) ≤ left
   pub apart : left + 2 + 2 * at scratch (left + 1) ≤ right
   pub within : right + 2 + 2 * at scratch (right + 1) ≤ length scratch
+  pub near : right + 2 + 2 * at scratch (right + 1) ≤ 65536
   pub small : at scratch left + at scratch right < 1024
-  pub few : at scratch (left + 1) + at scratch (right + 1) ≤ 1024
+  pub left-some : 1 ≤ at scratch (left + 1)
+  pub right-some : 1 ≤ at scratch (right + 1)
+  pub left-sorted : Sorted 0 (windowsAt (at scratch) (left + 2) (at scratch (left + 1)))
+  pub right-sorted : Sorted 0 (windowsAt (at scratch) (right + 2) (at scratch (right + 1)))
 
 -- the node's answer at the front, and the children as before
 pub record CombinedAt (before after : List ℤ) (left right : ℕ) : Type 0 where
   pub answer-is : answerAt (at after) 0 ≡ combined (answerAt (at before) left) (answerAt (at before) right)
   pub others-same : (place : ℕ) → left ≤ place → at after place ≡ at before place
+
+-- the answer of a node above two sets, by what the numbers of both children make up
+abbrev pub above : (numbers : ℕ) → (left right : List Window) → Answer
+above numbers left right = combined (record { number = numbers; windows = left }) (record { number = 0; windows = right })
+
+-- the node's answer at the front, above two lists of windows, and the lists as before
+pub record ListsCombined (numbers left lefts right rights : ℕ) (before after : List ℤ) : Type 0 where
+  pub answer-is : answerAt (at after) 0 ≡ above numbers (windowsAt (at before) left lefts) (windowsAt (at before) right rights)
+  pub others-same : (place : ℕ) → 2 + 2 * (lefts + rights) ≤ place → at after place ≡ at before place
 
 -- the terms that the tree needs over its leaves, with every answer in scratch
 pub record Counted (height value : ℕ) (leaves : List Window) (scratch : List ℤ) (count : ℕ) : Type 0 where

@@ -1,49 +1,48 @@
 // The bottom-up pass of building: the answer of every node of a subtree, in a stretch of scratch.
 // A node's answer rests on the answers of its two children; parts of setpoints and scratch are handed to each half of the tree.
+// Places, numbers and values have 32 bits, as in the crate windows; a part of a slice begins and ends at a usize.
 mod leaves;
+mod node;
 
 use leaves::write_leaf;
 use leaves::write_pair;
 use leaves::write_pairs;
+use node::combine;
 use windows::is_covered;
 use windows::load;
-use windows::store;
-use windows::write_join;
-use windows::write_meet;
 ghost use mathlib.Core.Path.{_≡_};
 ghost use Prim.Native.Nat.{_^_, _≤_, _<_};
 ghost use lib.IntN.{natAbs};
-ghost use lib.ListN.{length};
 ghost use Rattle.claims.specs.Inner.{lifted, lowered};
 ghost use Rattle.windows.specs.Scratch.{at};
 ghost use Rattle.subtree.specs.Answer.{slotWindows};
-ghost use Rattle.subtree.specs.Stretch.{places, Solvable, Solved, Planned, Combinable, CombinedAt, Headed, Counted};
+ghost use Rattle.subtree.specs.Stretch.{places, Solvable, Solved, Planned, Counted};
 
 // The places of a stretch, by the height of its subtree and its number of slots.
-fn places_of(height: usize, slots: usize) -> usize
+fn places_of(height: u32, slots: u32) -> u32
     requires { ⌜ (height ≤ 9) × (slots ≡ 2 ^ height) ⌝ }
     ensures { λ r. ⌜ (r ≡ places height) × (r ≤ 12286) ⌝ }
 {
     slots * (2 * height + 6) - 2
 }
 
-fn power_of_two(exponent: usize) -> usize
+fn power_of_two(exponent: u32) -> u32
     requires { ⌜ exponent ≤ 9 ⌝ }
     ensures { λ r. ⌜ (r ≡ 2 ^ exponent) × (r ≤ 512) ⌝ }
 {
-    1usize << exponent
+    1u32 << exponent
 }
 
 // How a node's setpoints and stretch part between its children: the left child's setpoints end at `half`,
 // the children's stretches lie from `own` to `middle` and from there to `end`.
 pub struct ChildPlaces {
-    pub half: usize,
-    pub own: usize,
-    pub middle: usize,
-    pub end: usize,
+    pub half: u32,
+    pub own: u32,
+    pub middle: u32,
+    pub end: u32,
 }
 
-pub fn plan(height: usize) -> ChildPlaces
+pub fn plan(height: u32) -> ChildPlaces
     requires { ⌜ (0 < height) × (height ≤ 9) ⌝ }
     ensures { λ r. ⌜ Planned height (r .half) (r .own) (r .middle) (r .end) ⌝ }
 {
@@ -60,58 +59,32 @@ pub fn plan(height: usize) -> ChildPlaces
 }
 
 // A value within ±20,000 as a number of 0 to 40,000.
-pub fn lift(value: i32) -> usize
+pub fn lift(value: i32) -> u32
     requires { ⌜ natAbs value ≤ 20000 ⌝ }
     ensures { λ r. ⌜ (r ≡ lifted value) × (r ≤ 40000) ⌝ }
 {
-    (value + 20000) as usize
+    (value + 20000) as u32
 }
 
 // A number of 0 to 40,000 as the value that it was lifted from.
-pub fn lower(number: usize) -> i16
+pub fn lower(number: u32) -> i16
     requires { ⌜ number ≤ 40000 ⌝ }
     ensures { λ r. ⌜ r ≡ lowered number ⌝ }
 {
     (number as i32 - 20000) as i16
 }
 
-// Writes an answer's number, and how many windows it has.
-fn write_header(scratch: &mut [i16], number: usize, count: usize)
-    requires { ⌜ (2 ≤ length (now scratch)) × (number ≤ 65535) × (count ≤ 65535) ⌝ }
-    ensures { λ _. ⌜ Headed number count (now (scratch .entry)) (now (scratch .exit)) ⌝ }
-{
-    store(scratch, 0, number);
-    store(scratch, 1, count);
-}
-
-// The answer of a node whose children's answers stand at `left` and `right`: what is in both sets, or in either where they do not meet.
-fn combine(scratch: &mut [i16], left: usize, right: usize)
-    requires { ⌜ Combinable (now scratch) left right ⌝ }
-    ensures { λ _. ⌜ CombinedAt (now (scratch .entry)) (now (scratch .exit)) left right ⌝ }
-{
-    let numbers = load(scratch, left) + load(scratch, right);
-    let left_count = load(scratch, left + 1);
-    let right_count = load(scratch, right + 1);
-    let count = write_meet(scratch, left + 2, left_count, right + 2, right_count);
-    if 0 < count {
-        write_header(scratch, numbers, count);
-    } else {
-        write_join(scratch, left + 2, left_count, right + 2, right_count);
-        write_header(scratch, numbers + 1, left_count + right_count);
-    }
-}
-
 // Fills a stretch with the answer of every node of a subtree over its setpoints.
-pub fn solve(setpoints: &[i16], band: usize, scratch: &mut [i16], height: usize)
+pub fn solve(setpoints: &[i16], band: u32, scratch: &mut [i16], height: u32)
     requires { ⌜ Solvable band height (now setpoints) (now scratch) ⌝ }
     ensures { λ _. ⌜ Solved height (slotWindows band (now (setpoints .entry))) (at (now (scratch .exit))) ⌝ }
 {
     if 1 < height {
         let parts = plan(height);
-        let half = parts.half;
-        let own = parts.own;
-        let middle = parts.middle;
-        let end = parts.end;
+        let half = parts.half as usize;
+        let own = parts.own as usize;
+        let middle = parts.middle as usize;
+        let end = parts.end as usize;
         if 2 < height {
             solve(
                 &setpoints[..half],
@@ -128,7 +101,7 @@ pub fn solve(setpoints: &[i16], band: usize, scratch: &mut [i16], height: usize)
         } else {
             write_pairs(setpoints, band, scratch);
         }
-        combine(scratch, own, middle);
+        combine(scratch, parts.own, parts.middle);
     } else if 0 < height {
         write_pair(setpoints[0], setpoints[1], band, scratch);
     } else {
@@ -139,11 +112,11 @@ pub fn solve(setpoints: &[i16], band: usize, scratch: &mut [i16], height: usize)
 // How many terms the tree needs where a value comes in at the root; scratch then holds every node's answer.
 pub fn count_terms(
     setpoints: &[i16],
-    band: usize,
-    value: usize,
+    band: u32,
+    value: u32,
     scratch: &mut [i16],
-    height: usize,
-) -> usize
+    height: u32,
+) -> u32
     requires { ⌜ Solvable band height (now setpoints) (now scratch) ⌝ }
     ensures { λ r. ⌜ Counted height value (slotWindows band (now (setpoints .entry))) (now (scratch .exit)) r ⌝ }
 {

@@ -15,19 +15,20 @@ use Rattle.windows.proofs.Reading.{at-part}
 use Rattle.subtree.specs.Answer.{Answer, combined, answer}
 use Rattle.subtree.specs.Stretch.{ownPlaces, places, answerAt, Solved, Usable, Planned}
 use Rattle.subtree.proofs.Answers.{answer-sorted, answer-bounded, usable-take, usable-drop}
-use Rattle.subtree.proofs.Places.{own-first}
+use Rattle.subtree.proofs.Places.{own-first, places-within}
 use Rattle.subtree.proofs.Solving.{solved-top, solved-same, count-of, child-answer}
 use Rattle.trace.specs.Trace.{choice, handedOn, levelTerms, upperTerms, setAt, Answered, Handing, SolvedStretch}
 
 -- ---- one answer
 
 answered-at : (height : ℕ) {leaves : List Window} → Usable leaves → (scratch : List ℤ) (place : ℕ) → answerAt (at scratch) place ≡ answer height leaves
-    → place + places height ≤ length scratch → Answered scratch place
-answered-at height {leaves} within scratch place is fits =
+    → place + places height ≤ length scratch → place + places height ≤ 12286 → Answered scratch place
+answered-at height {leaves} within scratch place is fits few =
     let bounds = answer-bounded height leaves in
     let count : at scratch (place + 1) ≡ length (answer height leaves .windows) = count-of (at scratch) place _ is in
     record {
       room = omega (arith, own-first height, bounds .few);
+      near = omega (arith, own-first height, bounds .few);
       not-empty = omega (arith, bounds .some);
       sorted = subst (λ (one : Answer). Sorted 0 (one .windows)) (sym is) (answer-sorted within height);
     }
@@ -37,7 +38,7 @@ module _ {height : ℕ} {scratch : List ℤ} (stretch : SolvedStretch height scr
   top-is = solved-top height (stretch .leaves) (at scratch) (stretch .solved)
 
   pub answered : Answered scratch 0
-  answered = answered-at height (stretch .usable) scratch 0 top-is (omega (arith, stretch .long))
+  answered = answered-at height (stretch .usable) scratch 0 top-is (omega (arith, stretch .long)) (omega (arith, places-within height (stretch .in-tree)))
 
 -- ---- the children
 
@@ -82,10 +83,10 @@ module _ {height half own middle end : ℕ} (planned : Planned height half own m
   handing in-set = record {
     left-answered =
         answered-at (height - 1) (usable-take (stretch .usable) (2 ^ (height - 1))) scratch own left-is
-        (omega (arith, planned .middle-is, planned .end-is, planned .all-places, stretch .long));
+        (omega (arith, planned .middle-is, planned .end-is, planned .all-places, stretch .long)) (omega (arith, planned .middle-is, planned .end-is, planned .few-places));
     right-answered =
         answered-at (height - 1) (usable-drop (stretch .usable) (2 ^ (height - 1))) scratch middle right-is
-        (omega (arith, planned .end-is, planned .all-places, stretch .long));
+        (omega (arith, planned .end-is, planned .all-places, stretch .long)) (omega (arith, planned .end-is, planned .few-places));
     combines = top-is stretch ∙ ap (λ (of : ℕ). answer of (stretch .leaves)) (planned .below) ∙ sym (ap₂ combined left-is right-is);
     in-set = in-set;
   }

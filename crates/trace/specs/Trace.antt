@@ -52,9 +52,10 @@ upperTerms (suc count) height leaves value = upperTerms count height leaves valu
 abbrev pub setAt : List ℤ → ℕ → List Window
 setAt scratch place = answerAt (at scratch) place .windows
 
--- a place of scratch with an answer
+-- a place of scratch with an answer, below place 65,536
 pub record Answered (scratch : List ℤ) (place : ℕ) : Type 0 where
   pub room : place + 2 + 2 * at scratch (place + 1) ≤ length scratch
+  pub near : place + 2 + 2 * at scratch (place + 1) ≤ 65536
   pub not-empty : 1 ≤ at scratch (place + 1)
   pub sorted : Sorted 0 (setAt scratch place)
 

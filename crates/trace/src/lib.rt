@@ -13,8 +13,8 @@ ghost use Rattle.trace.specs.Trace.{change, handedOn, setAt, Answered, T
 // Writes the terms of all levels, one level after the other, over the fronts of two slices; the answer is how many.
 pub fn trace(
     scratch: &[i16],
-    height: usize,
-    value: usize,
+    height: u32,
+    value: u32,
     nodes: &mut [u16],
     values: &mut [i16],
 ) -> usize
@@ -34,9 +34,9 @@ pub fn trace(
 // Writes the terms of the root and of its children over the fronts of two slices; the answer is how many.
 fn trace_top(
     scratch: &[i16],
-    height: usize,
-    value: usize,
-    next: usize,
+    height: u32,
+    value: u32,
+    next: u32,
     nodes: &mut [u16],
     values: &mut [i16],
 ) -> usize
@@ -55,10 +55,10 @@ fn trace_top(
 // No node below one whose number is 0 has a term. The recursion ends two levels above the terms, which saves most of its calls.
 fn trace_level(
     scratch: &[i16],
-    height: usize,
-    depth: usize,
-    node: usize,
-    value: usize,
+    height: u32,
+    depth: u32,
+    node: u32,
+    value: u32,
     nodes: &mut [u16],
     values: &mut [i16],
     count: usize,
@@ -70,10 +70,10 @@ fn trace_level(
         return count;
     }
     let parts = plan(height);
-    let own = parts.own;
-    let middle = parts.middle;
-    let end = parts.end;
-    let next = hand_to_children(scratch, own, middle, value);
+    let own = parts.own as usize;
+    let middle = parts.middle as usize;
+    let end = parts.end as usize;
+    let next = hand_to_children(scratch, parts.own, parts.middle, value);
     let left = next.left;
     let right = next.right;
     if 2 < depth {
@@ -122,9 +122,9 @@ fn trace_level(
 // Writes the terms of the children of a node that hands on `value`, behind the first `count`; the answer is how many there are then.
 fn trace_children(
     scratch: &[i16],
-    height: usize,
-    node: usize,
-    value: usize,
+    height: u32,
+    node: u32,
+    value: u32,
     nodes: &mut [u16],
     values: &mut [i16],
     count: usize,
@@ -140,9 +140,9 @@ fn trace_children(
 
 // Writes the term of a node, where it hands on another value than comes in, behind the first `count`; the answer is how many there are then.
 fn write_term(
-    node: usize,
-    value: usize,
-    next: usize,
+    node: u32,
+    value: u32,
+    next: u32,
     nodes: &mut [u16],
     values: &mut [i16],
     count: usize,
@@ -160,13 +160,13 @@ fn write_term(
 
 // What two children hand on.
 struct Handed {
-    left: usize,
-    right: usize,
+    left: u32,
+    right: u32,
 }
 
 // The values that two children hand on where a value of the node's set comes in; their answers stand at `left` and `right`.
 // Where the children's sets meet, the value is in both. Else the node's number is greater than the sum of theirs, and the value is in one of the sets.
-fn hand_to_children(scratch: &[i16], left: usize, right: usize, value: usize) -> Handed
+fn hand_to_children(scratch: &[i16], left: u32, right: u32, value: u32) -> Handed
     requires { ⌜ Handing (now scratch) left right value ⌝ }
     ensures { λ r. ⌜ HandedToChildren (now (scratch .entry)) left right value (r .left) (r .right) ⌝ }
 {
@@ -191,7 +191,7 @@ fn hand_to_children(scratch: &[i16], left: usize, right: usize, value: usize) ->
 }
 
 // The value that a node hands on: the one that comes in where it is in the node's set, else the lowest of the set.
-fn hand_on(scratch: &[i16], value: usize) -> usize
+fn hand_on(scratch: &[i16], value: u32) -> u32
     requires { ⌜ Answered (now scratch) 0 ⌝ }
     ensures { λ r. ⌜ r ≡ handedOn (setAt (now (scratch .entry)) 0) value ⌝ }
 {

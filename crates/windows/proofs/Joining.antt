@@ -1,17 +1,17 @@
--- The invariant of the loop that writes what is in either of two sets.
-use mathlib.Core.Path.{_≡_, refl, sym, subst}
-use mathlib.Core.Bool.{Bool, true, false, cond}
+-- The invariant of the loop that writes what is in either of two sets, up to the first two windows that meet.
+use mathlib.Core.Path.{_≡_, refl, sym, _∙_}
 use mathlib.Core.List.{List, [], _∷_, _++_}
-use Prim.Native.Nat.{ℕ, _+_, _*_, _≤_, _<_}
+use Prim.Native.Nat.{ℕ, _+_, _*_, _-_, _≤_, _<_, min, max}
 use native.Mathlib.Omega.{arith}
-use lib.Dec.{T, leb, ltb}
 use lib.IntN.{ℤ}
 use lib.ListN.{length}
-use borrow.Author.Tests.{leb-true, leb-false}
-use Rattle.windows.specs.Windows.{Window, join}
-use Rattle.windows.specs.Scratch.{at, windowsAt, Placed, Written, rightNext}
-use Rattle.windows.proofs.Reading.{rest, rest-of-all, rest-ended}
-use Rattle.windows.proofs.Writing.{windowAt, WrittenSoFar, none-so-far, more-written, all-written, next-window}
+use borrow.Author.Tests.{lt-ltb, le-ltb, le-leb, lt-leb}
+use Rattle.windows.specs.Windows.{Window, Sorted, between, meet, join}
+use Rattle.windows.specs.Scratch.{at, windowsAt, Joinable, Written, Joined}
+use Rattle.windows.proofs.Reading.{windows-same, windows-none, LeftOf, all-left, one-passed}
+use Rattle.windows.proofs.Writing.{windowAt, WrittenSoFar, none-so-far, one-copied, next-window}
+use Rattle.windows.proofs.Sets.{sorted-lower}
+use Rattle.windows.proofs.Meeting.{meet-none-left, meet-none-right, meet-left-ends, meet-right-ends}
 
 join-none-left : (right : List Window) → join [] right ≡ right
 unfolding join
@@ -22,108 +22,165 @@ unfolding join
 join-none-right [] = refl
 join-none-right (a ∷ left) = refl
 
-join-right-first : (a b : Window) (left right : List Window) → ltb (b .low) (a .low) ≡ true → join (a ∷ left) (b ∷ right) ≡ b ∷ join (a ∷ left) right
-unfolding join
-join-right-first a b left right lower = rw lower
+crossed : (low high : ℕ) → high < low → between low high ≡ []
+crossed low high apart = rw (lt-leb low high apart)
 
-join-left-first : (a b : Window) (left right : List Window) → ltb (b .low) (a .low) ≡ false → join (a ∷ left) (b ∷ right) ≡ a ∷ join left (b ∷ right)
-unfolding join
-join-left-first a b left right higher = rw higher
+-- two lists whose first windows hold a value each: where one of them ends before the other begins, it is the first of the join and in nothing of the meet
+module _ (a b : Window) (left right : List Window) (a-some : a .low ≤ a .high) (b-some : b .low ≤ b .high) where
+  join-left-first : a .high < b .low → join (a ∷ left) (b ∷ right) ≡ a ∷ join left (b ∷ right)
+  unfolding join
+  join-left-first before = rw (le-ltb (b .low) (a .low) (omega arith))
 
--- the windows of both lists are written, of the left one up to window i and of the right one up to window j
-pub record JoinSoFar (before : List ℤ) (left lefts right rights : ℕ) (now : List ℤ) (i j : ℕ) : Type 0 where
-  pub left-within : i ≤ lefts
-  pub right-within : j ≤ rights
-  pub so-far : WrittenSoFar (join (windowsAt (at before) left lefts) (windowsAt (at before) right rights)) (join (rest (at before) left lefts i) (rest (at before) right rights j)) (2 + 2 * (lefts + rights)) before now (i + j)
+  join-right-first : b .high < a .low → join (a ∷ left) (b ∷ right) ≡ b ∷ join (a ∷ left) right
+  unfolding join
+  join-right-first before = rw (lt-ltb (b .low) (a .low) (omega arith))
 
-module _ (before : List ℤ) (left lefts right rights : ℕ) (placed : Placed (length before) left lefts right rights) where
-  pub join-begun : JoinSoFar before left lefts right rights before 0 0
+  meet-left-passed : a .high < b .low → meet (a ∷ left) (b ∷ right) ≡ meet left (b ∷ right)
+  meet-left-passed before = meet-left-ends a b left right (omega arith) ∙ rw (crossed (max (a .low) (b .low)) (a .high) (omega arith))
+
+  meet-right-passed : b .high < a .low → meet (a ∷ left) (b ∷ right) ≡ meet (a ∷ left) right
+  meet-right-passed before = meet-right-ends a b left right (omega arith) ∙ rw (crossed (max (a .low) (b .low)) (b .high) (omega arith))
+
+  -- and where neither does, they meet
+  some-meet : b .low ≤ a .high → a .low ≤ b .high → 0 < length (meet (a ∷ left) (b ∷ right))
+  unfolding meet
+  some-meet b-reached a-reached = rw (le-leb (max (a .low) (b .low)) (min (a .high) (b .high)) (omega arith)) (omega arith)
+
+-- the join of two lists, of which so many windows are left, is written, and nothing of either meets what was passed of the other
+pub record JoinSoFar (before : List ℤ) (left₀ lefts₀ right₀ rights₀ : ℕ) (now : List ℤ) (left lefts right rights count : ℕ) : Type 0 where
+  pub of-left : LeftOf left₀ lefts₀ left lefts
+  pub of-right : LeftOf right₀ rights₀ right rights
+  pub counted : count + (lefts + rights) ≡ lefts₀ + rights₀
+  pub left-sorted : Sorted 0 (windowsAt (at before) left lefts)
+  pub right-sorted : Sorted 0 (windowsAt (at before) right rights)
+  pub same-meet : meet (windowsAt (at before) left₀ lefts₀) (windowsAt (at before) right₀ rights₀) ≡ meet (windowsAt (at before) left lefts) (windowsAt (at before) right rights)
+  pub so-far : WrittenSoFar (join (windowsAt (at before) left₀ lefts₀) (windowsAt (at before) right₀ rights₀)) (join (windowsAt (at before) left lefts) (windowsAt (at before) right rights)) (2 + 2 * (lefts₀ + rights₀)) before now count
+
+-- of a sorted list, that its first window holds a value, and that what follows is sorted
+first-holds : (window : Window) (windows : List Window) → Sorted 0 (window ∷ windows) → window .low ≤ window .high
+unfolding Sorted
+first-holds window windows sorted = sorted .1
+
+later-sorted : (window : Window) (windows : List Window) → Sorted 0 (window ∷ windows) → Sorted 0 windows
+unfolding Sorted
+later-sorted window windows sorted = sorted-lower windows (omega arith) (sorted .3)
+
+module _ (before : List ℤ) (left₀ lefts₀ right₀ rights₀ : ℕ) (joinable : Joinable before left₀ lefts₀ right₀ rights₀) where
+  pub join-begun : JoinSoFar before left₀ lefts₀ right₀ rights₀ before left₀ lefts₀ right₀ rights₀ 0
   join-begun =
       record {
-        left-within = omega arith;
-        right-within = omega arith;
-        so-far = rw (rest-of-all (at before) left lefts, rest-of-all (at before) right rights) (none-so-far _ _ before);
+        of-left = all-left left₀ lefts₀;
+        of-right = all-left right₀ rights₀;
+        counted = omega arith;
+        left-sorted = joinable .left-sorted;
+        right-sorted = joinable .right-sorted;
+        same-meet = refl;
+        so-far = none-so-far _ _ before;
       }
 
-  module _ (now : List ℤ) (i j : ℕ) (joined : JoinSoFar before left lefts right rights now i j) where
-    pub join-ended : lefts + rights ≤ i + j → Written (join (windowsAt (at before) left lefts) (windowsAt (at before) right rights)) (2 + 2 * (lefts + rights)) before now (lefts + rights)
-    join-ended ended =
-        let all : i + j ≡ lefts + rights = omega arith in
-        all-written (rw (rest-ended (at before) left lefts i (omega arith), rest-ended (at before) right rights j (omega arith), join-none-left [], all) at (joined .so-far))
-
-    -- the list whose window is next has one
-    pub right-has-one : rightNext (at now) left lefts right rights i j ≡ true → j < rights
-    right-has-one next = split (leb rights j) refl next
-      where
-        split : (none : Bool) → leb rights j ≡ none → cond none false (cond (leb lefts i) true (ltb (at now (right + 2 * j)) (at now (left + 2 * i)))) ≡ true → j < rights
-        split true ended next = absurd (subst T (sym next) tt)
-        split false more next = leb-false rights j more
-
-    pub left-has-one : i + j < lefts + rights → rightNext (at now) left lefts right rights i j ≡ false → i < lefts
-    left-has-one more-left next = split (leb rights j) refl (leb lefts i) refl next
-      where
-        split : (none-right : Bool) → leb rights j ≡ none-right → (none-left : Bool) → leb lefts i ≡ none-left
-            → cond none-right false (cond none-left true (ltb (at now (right + 2 * j)) (at now (left + 2 * i)))) ≡ false → i < lefts
-        split true ended none-left left-test next = omega (arith, leb-true rights j ended)
-        split false more true ended next = absurd (subst T next tt)
-        split false more false left-more next = leb-false lefts i left-more
-
-    left-is : i < lefts → rest (at before) left lefts i ≡ windowAt now (left + 2 * i) ∷ rest (at before) left lefts (i + 1)
-    left-is more = next-window (joined .so-far) left lefts i (placed .room) more
-
-    right-is : j < rights → rest (at before) right rights j ≡ windowAt now (right + 2 * j) ∷ rest (at before) right rights (j + 1)
-    right-is more = next-window (joined .so-far) right rights j (omega arith) more
-
-    goes-on-right : rightNext (at now) left lefts right rights i j ≡ true
-        → join (rest (at before) left lefts i) (rest (at before) right rights j) ≡ windowAt now (right + 2 * j) ∷ join (rest (at before) left lefts i) (rest (at before) right rights (j + 1))
-    goes-on-right next = split (leb rights j) refl (leb lefts i) refl next
-      where
-        split : (none-right : Bool) → leb rights j ≡ none-right → (none-left : Bool) → leb lefts i ≡ none-left
-            → cond none-right false (cond none-left true (ltb (at now (right + 2 * j)) (at now (left + 2 * i)))) ≡ true
-            → join (rest (at before) left lefts i) (rest (at before) right rights j) ≡ windowAt now (right + 2 * j) ∷ join (rest (at before) left lefts i) (rest (at before) right rights (j + 1))
-        split true ended none-left left-test next = absurd (subst T (sym next) tt)
-        split false more true ended next =
-            rw (rest-ended (at before) left lefts i (leb-true lefts i ended), join-none-left (rest (at before) right rights j), join-none-left (rest (at before) right rights (j + 1)))
-            (right-is (leb-false rights j more))
-        split false more false left-more next =
-            rw (left-is (leb-false lefts i left-more), right-is (leb-false rights j more))
-            (join-right-first (windowAt now (left + 2 * i)) (windowAt now (right + 2 * j)) (rest (at before) left lefts (i + 1)) (rest (at before) right rights (j + 1)) next)
-
-    goes-on-left : i + j < lefts + rights → rightNext (at now) left lefts right rights i j ≡ false
-        → join (rest (at before) left lefts i) (rest (at before) right rights j) ≡ windowAt now (left + 2 * i) ∷ join (rest (at before) left lefts (i + 1)) (rest (at before) right rights j)
-    goes-on-left more-left next = split (leb rights j) refl (leb lefts i) refl next
-      where
-        split : (none-right : Bool) → leb rights j ≡ none-right → (none-left : Bool) → leb lefts i ≡ none-left
-            → cond none-right false (cond none-left true (ltb (at now (right + 2 * j)) (at now (left + 2 * i)))) ≡ false
-            → join (rest (at before) left lefts i) (rest (at before) right rights j) ≡ windowAt now (left + 2 * i) ∷ join (rest (at before) left lefts (i + 1)) (rest (at before) right rights j)
-        split true ended none-left left-test next =
-            rw (rest-ended (at before) right rights j (leb-true rights j ended), join-none-right (rest (at before) left lefts i), join-none-right (rest (at before) left lefts (i + 1)))
-            (left-is (omega (arith, leb-true rights j ended)))
-        split false more true ended next = absurd (subst T next tt)
-        split false more false left-more next =
-            rw (left-is (leb-false lefts i left-more), right-is (leb-false rights j more))
-            (join-left-first (windowAt now (left + 2 * i)) (windowAt now (right + 2 * j)) (rest (at before) left lefts (i + 1)) (rest (at before) right rights (j + 1)) next)
-
-    -- a turn of the loop: the next window of a list was copied
-    module _ (more : i + j < lefts + rights) (after : List ℤ) (long : length after ≡ length now) where
-      pub right-copied : rightNext (at now) left lefts right rights i j ≡ true
-          → Written (windowsAt (at now) 2 (i + j) ++ windowsAt (at now) (right + 2 * j) 1) (2 + 2 * (i + j) + 2) now after (i + j + 1) → JoinSoFar before left lefts right rights after i (j + 1)
+  module _ (now : List ℤ) (left lefts right rights count : ℕ) (joined : JoinSoFar before left₀ lefts₀ right₀ rights₀ now left lefts right rights count) where
+    -- at the end of either list nothing meets, and what is left of the other was copied
+    module _ (after : List ℤ) (later : List Window) (next : ℕ)
+        (written : Written (windowsAt (at now) 2 count ++ later) (2 + 2 * next) now after next) (next-is : next ≡ lefts₀ + rights₀) where
+      ended : join (windowsAt (at before) left lefts) (windowsAt (at before) right rights) ≡ later → meet (windowsAt (at before) left lefts) (windowsAt (at before) right rights) ≡ []
+          → Joined left₀ lefts₀ right₀ rights₀ before after left 0 right 0
       unfolding windowsAt
-      right-copied next written =
-          let one-more : i + (j + 1) ≡ i + j + 1 = omega arith in
+      ended later-is none =
+          let of-left = joined .of-left in
+          let of-right = joined .of-right in
+          let placed = joinable .placed in
           record {
-            left-within = omega arith;
-            right-within = omega (arith, right-has-one next);
-            so-far = rw one-more (more-written (windowsAt (at now) (right + 2 * j) 1) (joined .so-far) (goes-on-right next) written long (omega arith));
+            others-same = λ place above. written .others-same place (omega arith) ∙ joined .so-far .others-same place above;
+            rest-placed = record { room = omega arith; apart = omega arith; within = omega arith; small = omega arith };
+            rest-later = omega arith;
+            rest-fewer = omega arith;
+            same-meet = joined .same-meet ∙ none ∙ sym (meet-none-left []);
+            some-meet = λ some. absurd (omega arith);
+            all-joined = λ nothing. rw next-is at (written .windows-are ∙ (rw later-is at (joined .so-far .windows-are)));
           }
 
-      pub left-copied : rightNext (at now) left lefts right rights i j ≡ false
-          → Written (windowsAt (at now) 2 (i + j) ++ windowsAt (at now) (left + 2 * i) 1) (2 + 2 * (i + j) + 2) now after (i + j + 1) → JoinSoFar before left lefts right rights after (i + 1) j
-      unfolding windowsAt
-      left-copied next written =
-          let one-more : i + 1 + j ≡ i + j + 1 = omega arith in
+    pub left-ended : lefts ≤ 0 → (after : List ℤ) → Written (windowsAt (at now) 2 count ++ windowsAt (at now) right rights) (2 + 2 * (count + rights)) now after (count + rights)
+        → Joined left₀ lefts₀ right₀ rights₀ before after left 0 right 0
+    left-ended none after written =
+        let right-same : windowsAt (at now) right rights ≡ windowsAt (at before) right rights =
+        windows-same (at now) (at before) right rights (λ place above below. joined .so-far .others-same place (omega arith)) in
+        ended after (windowsAt (at now) right rights) (count + rights) written (omega arith)
+        (rw (windows-none (at before) left lefts none, right-same) (join-none-left (windowsAt (at before) right rights)))
+        (rw (windows-none (at before) left lefts none) (meet-none-left (windowsAt (at before) right rights)))
+
+    pub right-ended : rights ≤ 0 → (after : List ℤ) → Written (windowsAt (at now) 2 count ++ windowsAt (at now) left lefts) (2 + 2 * (count + lefts)) now after (count + lefts)
+        → Joined left₀ lefts₀ right₀ rights₀ before after left 0 right 0
+    right-ended none after written =
+        let left-same : windowsAt (at now) left lefts ≡ windowsAt (at before) left lefts =
+        windows-same (at now) (at before) left lefts (λ place above below. joined .so-far .others-same place (omega arith)) in
+        ended after (windowsAt (at now) left lefts) (count + lefts) written (omega arith)
+        (rw (windows-none (at before) right rights none, left-same) (join-none-right (windowsAt (at before) left lefts)))
+        (rw (windows-none (at before) right rights none) (meet-none-right (windowsAt (at before) left lefts)))
+
+    -- both lists go on
+    module _ (left-more : 0 < lefts) (right-more : 0 < rights) where
+      abbrev lefts-later : List Window
+      lefts-later = windowsAt (at before) (left + 2) (lefts - 1)
+
+      abbrev rights-later : List Window
+      rights-later = windowsAt (at before) (right + 2) (rights - 1)
+
+      left-is : windowsAt (at before) left lefts ≡ windowAt now left ∷ lefts-later
+      left-is = next-window (joined .so-far) left lefts (omega arith) left-more
+
+      right-is : windowsAt (at before) right rights ≡ windowAt now right ∷ rights-later
+      right-is = next-window (joined .so-far) right rights (omega arith) right-more
+
+      left-holds : at now left ≤ at now (left + 1)
+      left-holds = first-holds (windowAt now left) lefts-later (rw left-is at (joined .left-sorted))
+
+      right-holds : at now right ≤ at now (right + 1)
+      right-holds = first-holds (windowAt now right) rights-later (rw right-is at (joined .right-sorted))
+
+      -- neither of the next windows ends before the other begins: they meet
+      pub stopped : at now right ≤ at now (left + 1) → at now left ≤ at now (right + 1) → Joined left₀ lefts₀ right₀ rights₀ before now left lefts right rights
+      stopped right-reached left-reached =
+          let of-left = joined .of-left in
+          let of-right = joined .of-right in
+          let placed = joinable .placed in
           record {
-            left-within = omega (arith, left-has-one more next);
-            right-within = omega arith;
-            so-far = rw one-more (more-written (windowsAt (at now) (left + 2 * i) 1) (joined .so-far) (goes-on-left more next) written long (omega arith));
+            others-same = joined .so-far .others-same;
+            rest-placed = record { room = omega arith; apart = omega arith; within = omega arith; small = omega arith };
+            rest-later = omega arith;
+            rest-fewer = omega arith;
+            same-meet = joined .same-meet;
+            some-meet = λ some. rw (left-is, right-is) (some-meet (windowAt now left) (windowAt now right) lefts-later rights-later left-holds right-holds right-reached left-reached);
+            all-joined = λ none. absurd (omega arith);
           }
+
+      -- a turn of the loop: the window that ends before the other begins was copied
+      module _ (after : List ℤ) (long : length after ≡ length now) where
+        pub left-copied : at now (left + 1) < at now right → Written (windowsAt (at now) 2 count ++ windowsAt (at now) left 1) (2 + 2 * count + 2) now after (count + 1)
+            → JoinSoFar before left₀ lefts₀ right₀ rights₀ after (left + 2) (lefts - 1) right rights (count + 1)
+        left-copied first written =
+            record {
+              of-left = one-passed (joined .of-left) left-more;
+              of-right = joined .of-right;
+              counted = omega arith;
+              left-sorted = later-sorted (windowAt now left) lefts-later (rw left-is at (joined .left-sorted));
+              right-sorted = joined .right-sorted;
+              same-meet = joined .same-meet ∙ rw (left-is, right-is) (meet-left-passed (windowAt now left) (windowAt now right) lefts-later rights-later left-holds right-holds first);
+              so-far =
+                  one-copied left (joined .so-far)
+                  (rw (left-is, right-is) (join-left-first (windowAt now left) (windowAt now right) lefts-later rights-later left-holds right-holds first)) written long (omega arith);
+            }
+
+        pub right-copied : at now (right + 1) < at now left → Written (windowsAt (at now) 2 count ++ windowsAt (at now) right 1) (2 + 2 * count + 2) now after (count + 1)
+            → JoinSoFar before left₀ lefts₀ right₀ rights₀ after left lefts (right + 2) (rights - 1) (count + 1)
+        right-copied first written =
+            record {
+              of-left = joined .of-left;
+              of-right = one-passed (joined .of-right) right-more;
+              counted = omega arith;
+              left-sorted = joined .left-sorted;
+              right-sorted = later-sorted (windowAt now right) rights-later (rw right-is at (joined .right-sorted));
+              same-meet = joined .same-meet ∙ rw (left-is, right-is) (meet-right-passed (windowAt now left) (windowAt now right) lefts-later rights-later left-holds right-holds first);
+              so-far =
+                  one-copied right (joined .so-far)
+                  (rw (left-is, right-is) (join-right-first (windowAt now left) (windowAt now right) lefts-later rights-later left-holds right-holds first)) written long (omega arith);
+            }

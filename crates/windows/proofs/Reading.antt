@@ -10,7 +10,6 @@ use lib.IntN.{ℤ, pos, negsuc}
 use lib.ListN.{length, set, take, drop}
 use lib.Seq.{getD-set-same, getD-set-other, getD-take, getD-drop}
 use borrow.Author.Tests.{ltb-true, ltb-false}
-use Rattle.windows.specs.Windows.{Window}
 use Rattle.windows.specs.Scratch.{word, signed, at, windowsAt}
 
 -- ---- numbers
@@ -66,24 +65,25 @@ windows-more read place (suc count) more =
     let next : place + 2 * suc count ≡ place + 2 + 2 * count = omega arith in
     rw (one, next, windows-more read (place + 2) count more)
 
--- of `count` windows from a place on, window i and those after it
-abbrev pub rest : (ℕ → ℕ) → ℕ → ℕ → ℕ → List Window
-rest read place count i = windowsAt read (place + 2 * i) (count - i)
-
-pub rest-of-all : (read : ℕ → ℕ) (place count : ℕ) → rest read place count 0 ≡ windowsAt read place count
-rest-of-all read place count =
-    let here : place + 2 * 0 ≡ place = omega arith in
-    let all : count - 0 ≡ count = omega arith in
-    rw (here, all)
-
-pub rest-more : (read : ℕ → ℕ) (place count i : ℕ) → i < count
-    → rest read place count i ≡ record { low = read (place + 2 * i); high = read (place + 2 * i + 1) } ∷ rest read place count (i + 1)
+-- the first window, and those after it
+pub windows-first : (read : ℕ → ℕ) (place count : ℕ) → 0 < count
+    → windowsAt read place count ≡ record { low = read place; high = read (place + 1) } ∷ windowsAt read (place + 2) (count - 1)
 unfolding windowsAt
-rest-more read place count i inside =
-    let one : count - i ≡ suc (count - (i + 1)) = omega arith in
-    let next : place + 2 * i + 2 ≡ place + 2 * (i + 1) = omega arith in
-    rw (one, ← next)
+windows-first read place count some =
+    let one : count ≡ suc (count - 1) = omega arith in
+    ap (windowsAt read place) one
 
-pub rest-ended : (read : ℕ → ℕ) (place count i : ℕ) → count ≤ i → rest read place count i ≡ []
+pub windows-none : (read : ℕ → ℕ) (place count : ℕ) → count ≤ 0 → windowsAt read place count ≡ []
 unfolding windowsAt
-rest-ended read place count i ended = let none : count - i ≡ 0 = omega arith in rw none
+windows-none read place count none = let empty : count ≡ 0 = omega arith in rw empty
+
+-- what is left of `count` windows from a place on: where the next one is, and how many there are
+pub record LeftOf (place count next left : ℕ) : Type 0 where
+  pub ends : next + 2 * left ≡ place + 2 * count
+  pub fewer : left ≤ count
+
+pub all-left : (place count : ℕ) → LeftOf place count place count
+all-left place count = record { ends = refl; fewer = omega arith }
+
+pub one-passed : {place count next left : ℕ} → LeftOf place count next left → 0 < left → LeftOf place count (next + 2) (left - 1)
+one-passed of-list some = record { ends = omega arith; fewer = omega arith }

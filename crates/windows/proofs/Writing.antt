@@ -2,19 +2,19 @@
 use mathlib.Core.Path.{_≡_, refl, sym, ap, _∙_}
 use mathlib.Core.Logic.{_≢_}
 use mathlib.Core.List.{List, [], _∷_, _++_, append-assoc, append-nil}
-use Prim.Native.Nat.{ℕ, _+_, _*_, _≤_, _<_}
+use Prim.Native.Nat.{ℕ, _+_, _*_, _-_, _≤_, _<_}
 use native.Mathlib.Omega.{arith}
 use lib.IntN.{ℤ}
 use lib.ListN.{length, set, length-set, length-append}
 use Rattle.windows.specs.Windows.{Window}
 use Rattle.windows.specs.Scratch.{signed, at, windowsAt, Written}
-use Rattle.windows.proofs.Reading.{at-set-same, at-set-other, windows-same, windows-length, windows-more, rest, rest-more}
+use Rattle.windows.proofs.Reading.{at-set-same, at-set-other, windows-same, windows-length, windows-more, windows-first}
 
 -- scratch after both ends of a window were stored behind `count` windows
 abbrev pub stored : List ℤ → ℕ → ℕ → ℕ → List ℤ
 stored before count low high = set (set before (2 + 2 * count) (signed low)) (2 + 2 * count + 1) (signed high)
 
-module _ (before : List ℤ) (count low high : ℕ) (inside : 2 + 2 * count + 1 < length before) (low-small : low ≤ 65535) (high-small : high ≤ 65535) where
+module _ (before : List ℤ) (count low high : ℕ) (inside : 2 + 2 * count + 2 ≤ length before) (low-small : low ≤ 65535) (high-small : high ≤ 65535) where
   elsewhere : (place : ℕ) → place ≢ 2 + 2 * count → place ≢ 2 + 2 * count + 1 → at (stored before count low high) place ≡ at before place
   elsewhere place not-low not-high = at-set-other (set before (2 + 2 * count) (signed low)) (2 + 2 * count + 1) high place not-high ∙ at-set-other before (2 + 2 * count) low place not-low
 
@@ -27,7 +27,7 @@ module _ (before : List ℤ) (count low high : ℕ) (inside : 2 + 2 * count + 1 
       ∙ at-set-same before (2 + 2 * count) low (omega arith) low-small
 
   high-stored : at (stored before count low high) (2 + 2 * count + 1) ≡ high
-  high-stored = at-set-same (set before (2 + 2 * count) (signed low)) (2 + 2 * count + 1) high (simp length-set inside) high-small
+  high-stored = at-set-same (set before (2 + 2 * count) (signed low)) (2 + 2 * count + 1) high (simp length-set (omega arith)) high-small
 
   added : windowsAt (at (stored before count low high)) 2 (count + 1) ≡ windowsAt (at before) 2 count ++ (record { low = low; high = high } ∷ [])
   unfolding windowsAt
@@ -70,6 +70,10 @@ pub none-so-far : (all : List Window) (end : ℕ) (before : List ℤ) → Writte
 unfolding windowsAt
 none-so-far all end before = record { same-length = refl; windows-are = refl; header-same = λ place below. refl; others-same = λ place above. refl }
 
+-- windows that stood there before, and those that follow
+pub some-so-far : (later : List Window) (end : ℕ) (before : List ℤ) (count : ℕ) → WrittenSoFar (windowsAt (at before) 2 count ++ later) later end before before count
+some-so-far later end before count = record { same-length = refl; windows-are = refl; header-same = λ place below. refl; others-same = λ place above. refl }
+
 -- some of those to come were written behind
 pub more-written : {all to-come later : List Window} {end count next : ℕ} {before now after : List ℤ} (more : List Window) → WrittenSoFar all to-come end before now count → to-come ≡ more ++ later
     → Written (windowsAt (at now) 2 count ++ more) (2 + 2 * count + 2) now after next → length after ≡ length now → 2 + 2 * count + 2 ≤ end → WrittenSoFar all later end before after next
@@ -92,9 +96,16 @@ all-written {count = count} {now = now} so-far =
     }
 
 -- a list that lies from `end` on is read as it was before
-pub next-window : {all to-come : List Window} {end written : ℕ} {before now : List ℤ} → WrittenSoFar all to-come end before now written → (place count i : ℕ) → end ≤ place → i < count
-    → rest (at before) place count i ≡ windowAt now (place + 2 * i) ∷ rest (at before) place count (i + 1)
-next-window {before = before} so-far place count i far more =
-    let low = so-far .others-same (place + 2 * i) (omega arith) in
-    let high = so-far .others-same (place + 2 * i + 1) (omega arith) in
-    rw (low, high) (rest-more (at before) place count i more)
+pub next-window : {all to-come : List Window} {end written : ℕ} {before now : List ℤ} → WrittenSoFar all to-come end before now written → (place left : ℕ) → end ≤ place → 0 < left
+    → windowsAt (at before) place left ≡ windowAt now place ∷ windowsAt (at before) (place + 2) (left - 1)
+next-window {before = before} so-far place left far some =
+    let low = so-far .others-same place far in
+    let high = so-far .others-same (place + 1) (omega arith) in
+    rw (low, high) (windows-first (at before) place left some)
+
+-- the first window of those to come was copied from a place
+pub one-copied : {all to-come later : List Window} {end count : ℕ} {before now after : List ℤ} (place : ℕ) → WrittenSoFar all to-come end before now count → to-come ≡ windowAt now place ∷ later
+    → Written (windowsAt (at now) 2 count ++ windowsAt (at now) place 1) (2 + 2 * count + 2) now after (count + 1) → length after ≡ length now → 2 + 2 * count + 2 ≤ end
+    → WrittenSoFar all later end before after (count + 1)
+unfolding windowsAt
+one-copied {now = now} place so-far split written long room = more-written (windowsAt (at now) place 1) so-far split written long room

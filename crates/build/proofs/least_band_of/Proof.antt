@@ -48,13 +48,13 @@ same-length c = search needs
 
 returns : tie.Need-returns
 returns c =
-    let start = c .before .before .before .before .before .before .before .before .before in
+    let start = c .before .before .before .before .before .before .before .before .before .before in
     let args = start .args in
-    let filled = c .before .before .before .before .before .before .before .fill in
-    let size = c .before .before .before .before .before .tree-over in
-    let value = rw (toZ-ofZ (start .fits .rest)) at (c .before .before .before .before .lift .ensures .0) in
-    let found = c .before .least-band-within in
-    least-found (args .setpoints .now) (args .rest) (args .budget) (args .scratch .now) (start .pre) (filled .last .1 .0) (omega (arith, filled .kept .1 .0)) (filled .ensures) (found .result) (rw (size .ensures .0, size .ensures .1, value) at (found .ensures .0))
+    let filled = c .before .before .before .before .before .before .before .before .fill in
+    let size = c .before .before .before .before .before .before .tree-over in
+    let value = rw (toZ-ofZ (start .fits .rest)) at (c .before .before .before .before .before .lift .ensures .0) in
+    let found = c .before .before .least-band-within in
+    least-found (args .setpoints .now) (args .rest) (args .budget) (args .scratch .now) (start .pre) (filled .last .1 .0) (omega (arith, filled .kept .1 .0)) (filled .ensures) (found .result .band) (rw (size .ensures .0, size .ensures .1, value) at (found .ensures .least-within))
 
 pub least-band-of-spec : {M : Type 1} → statement M
 least-band-of-spec =

@@ -29,8 +29,8 @@ returns c =
     let error = c .before .error-in .ensures in
     (refl, beyond-band (a .setpoints .now) (a .restored .now) (a .band) _ (c .before .before .before .loop .slot) _ (c .before .before .before .loop .inv) (c .before .before .loop-test .taken) (error .is) (c .if1 .taken))
 
-larger-requires : tie.Need-larger-requires Inv-loop μ-loop
-larger-requires c κs = search needs
+greater-requires : tie.Need-greater-requires Inv-loop μ-loop
+greater-requires c κs = search needs
 
 add-slot : tie.Need-add-slot Inv-loop μ-loop
 add-slot c = omega (arith, c .before .before .before .loop-test .taken, c .before .before .before .before .before .pre .few-slots)
@@ -42,7 +42,7 @@ loop-again : tie.Need-loop-again Inv-loop μ-loop
 loop-again c =
     let a = c .before .before .before .before .before .args in
     let error = c .before .before .error-in .ensures in
-    rw (c .larger .ensures)
+    rw (c .greater .ensures)
     (one-more (a .setpoints .now) (a .restored .now) (a .band) _ (c .before .before .before .before .loop .slot) _ (c .before .before .before .before .loop .inv) (c .before .before .before .loop-test .taken) (error .is) (error .small) (c .before .if1 .left))
 
 cast-t10 : tie.Need-cast-t10 Inv-loop μ-loop
@@ -63,7 +63,7 @@ compare-spec =
     error-in-requires
     cast-t9
     returns
-    larger-requires
+    greater-requires
     add-slot
     loop-less
     loop-again

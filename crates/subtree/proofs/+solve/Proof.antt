@@ -14,7 +14,7 @@ use Rattle.windows.specs.Scratch.{at}
 use Rattle.subtree.specs.Answer.{slotWindows}
 use Rattle.subtree.specs.Stretch.{Halves}
 use Rattle.subtree.proofs.Places.{own-first}
-use Rattle.subtree.proofs.Slots.{front-solved, back-solved}
+use Rattle.subtree.proofs.Slots.{windows-usable, front-solved, back-solved}
 use Rattle.subtree.proofs.Solving.{left-solvable, right-solvable, halves, halves-combinable, whole-solved, both-length, leaf-whole}
 use Rattle.subtree.proofs.Pairs.{two-slots, pair-places, pair-whole, pairs-below}
 use borrow.Fn.Kinds.{In}
@@ -22,7 +22,7 @@ use borrow.Fn.PlainCycle.{Measures, is, falls, and}
 use Rattle.subtree.proofs.solve.Reads as solve
 use Rattle.subtree.proofs.solve.Kinds as solve-kinds
 use Rattle.subtree.proofs.+solve.Lts-solve as lts
-use Rattle.subtree.proofs.combine.Reads as combine-reads
+use Rattle.subtree.proofs.node.combine.Reads as combine-reads
 use Rattle.subtree.proofs.plan.Reads as plan-reads
 use Rattle.subtree.proofs.leaves.write_leaf.Reads as write-leaf-reads
 use Rattle.subtree.proofs.leaves.write_pair.Reads as write-pair-reads
@@ -47,6 +47,18 @@ module _ (t : ℕ) where
   plan-requires : lts.Need-plan-requires (calls t) (at-measure t) solve.Post
   plan-requires c κs = search needs
 
+  cast-half : lts.Need-cast-half (calls t) (at-measure t) solve.Post
+  cast-half c = omega arith
+
+  cast-own : lts.Need-cast-own (calls t) (at-measure t) solve.Post
+  cast-own c = omega arith
+
+  cast-middle : lts.Need-cast-middle (calls t) (at-measure t) solve.Post
+  cast-middle c = omega arith
+
+  cast-end : lts.Need-cast-end (calls t) (at-measure t) solve.Post
+  cast-end c = omega arith
+
   slice-aggregate-solve : lts.Need-slice-aggregate-solve (calls t) (at-measure t) solve.Post
   slice-aggregate-solve c = sym (length-take-le _ _ (omega arith))
 
@@ -67,9 +79,9 @@ module _ (t : ℕ) where
 
   solve-requires : lts.Need-solve-requires (calls t) (at-measure t) solve.Post
   solve-requires c κs =
-      let start = c .before .before .before .before .before in
-      let parts = c .before .before .before .plan .result in
-      let planned = c .before .before .before .plan .ensures in
+      let start = c .before .before .before .before .before .before .before .before .before in
+      let parts = c .before .before .before .before .before .before .before .plan .result in
+      let planned = c .before .before .before .before .before .before .before .plan .ensures in
       (omega arith, left-solvable (start .args .band) (start .args .height) (parts .half) (parts .own) (parts .middle) (parts .end) (start .args .setpoints .now) (start .args .scratch .now) planned (start .pre .1))
 
   mul-solve-2 : lts.Need-mul-solve-2 (calls t) (at-measure t) solve.Post
@@ -101,29 +113,29 @@ module _ (t : ℕ) where
 
   solve-requires-2 : lts.Need-solve-requires-2 (calls t) (at-measure t) solve.Post
   solve-requires-2 c κs =
-      let start = c .before .before .before .before .before .before .before .before .before in
-      let parts = c .before .before .before .before .before .before .before .plan .result in
-      let planned = c .before .before .before .before .before .before .before .plan .ensures in
+      let start = c .before .before .before .before .before .before .before .before .before .before .before .before .before in
+      let parts = c .before .before .before .before .before .before .before .before .before .before .before .plan .result in
+      let planned = c .before .before .before .before .before .before .before .before .before .before .before .plan .ensures in
       let left = c .before .before .before .solve .last .1 .1 .0 in
       let left-long : length left ≡ parts .middle - parts .own = c .before .before .before .solve .kept .1 .1 .0 ∙ mid-len (parts .own) (parts .middle) (start .args .scratch .now) (omega arith) in
       (omega arith, right-solvable (start .args .band) (start .args .height) (parts .half) (parts .own) (parts .middle) (parts .end) (start .args .setpoints .now) (start .args .scratch .now) planned (start .pre .1) _ (same-len-mid (parts .own) (parts .middle - parts .own) (start .args .scratch .now) left (c .before .before .before .solve .kept .1 .1 .0)))
 
   write-pairs-requires : lts.Need-write-pairs-requires (calls t) (at-measure t) solve.Post
   write-pairs-requires c κs =
-      let start = c .before .before .before .before in
+      let start = c .before .before .before .before .before .before .before .before in
       let two : start .args .height ≡ 2 = omega arith in
       rw two at (start .pre .1)
 
   -- both children are solved, by their own calls or as two pairs
   children-solved : (c : lts.Joined2 (calls t) (at-measure t) solve.Post)
-      → let start = c .before .before .before in
-      let parts = c .before .plan .result in
+      → let start = c .before .before .before .before .before .before .before in
+      let parts = c .before .before .before .before .before .plan .result in
       Halves (start .args .height - 1) (parts .own) (parts .middle) (slotWindows (start .args .band) (start .args .setpoints .now)) (c .if2 .scratch) × (length (c .if2 .scratch) ≡ length (start .args .scratch .now))
   children-solved c =
-      let start = c .before .before .before in
+      let start = c .before .before .before .before .before .before .before in
       let a = start .args in
-      let parts = c .before .plan .result in
-      let planned = c .before .plan .ensures in
+      let parts = c .before .before .before .before .before .plan .result in
+      let planned = c .before .before .before .before .before .plan .ensures in
       let leaves = slotWindows (a .band) (a .setpoints .now) in
       ⊎-elim
       (λ w.
@@ -145,11 +157,11 @@ module _ (t : ℕ) where
 
   combine-requires : lts.Need-combine-requires (calls t) (at-measure t) solve.Post
   combine-requires c κs =
-      let start = c .before .before .before .before in
-      let parts = c .before .before .plan .result in
+      let start = c .before .before .before .before .before .before .before .before in
+      let parts = c .before .before .before .before .before .before .plan .result in
       let solved = children-solved (c .before) in
       halves-combinable (start .args .height) (parts .half) (parts .own) (parts .middle) (parts .end) (slotWindows (start .args .band) (start .args .setpoints .now)) (c .before .if2 .scratch)
-      (c .before .before .plan .ensures) (solved .0) (omega arith) (omega arith)
+      (c .before .before .before .before .before .before .plan .ensures) (solved .0) (windows-usable (start .args .band) (start .pre .1 .setpoints-within)) (omega arith) (omega arith)
 
   shared-slice-copy-out-write-pair : lts.Need-shared-slice-copy-out-write-pair (calls t) (at-measure t) solve.Post
   shared-slice-copy-out-write-pair c = omega (arith, pow-pos (c .before .before .args .height))
@@ -180,10 +192,10 @@ module _ (t : ℕ) where
 
   returns : lts.Need-returns (calls t) (at-measure t) solve.Post
   returns c =
-      let start = c .before .before .before .before .before .before in
-      let parts = c .before .before .before .before .plan .result in
+      let start = c .before .before .before .before .before .before .before .before .before .before in
+      let parts = c .before .before .before .before .before .before .before .before .plan .result in
       whole-solved (start .args .height) (parts .half) (parts .own) (parts .middle) (parts .end) (slotWindows (start .args .band) (start .args .setpoints .now)) (c .before .before .before .if2 .scratch)
-      (c .before .before .before .before .plan .ensures) (children-solved (c .before .before .before) .0) (c .before .combine .last .0) (c .before .combine .ensures)
+      (c .before .before .before .before .before .before .before .before .plan .ensures) (children-solved (c .before .before .before) .0) (c .before .combine .last .0) (c .before .combine .ensures)
 
   same-length-2 : lts.Need-same-length-2 (calls t) (at-measure t) solve.Post
   same-length-2 c = omega arith
@@ -212,6 +224,10 @@ pub +solve-spec : {M : Type 1} → statement M
     (at-measure t)
     solve.Post
     (plan-requires t)
+    (cast-half t)
+    (cast-own t)
+    (cast-middle t)
+    (cast-end t)
     (slice-aggregate-solve t)
     (mul-solve t)
     (sub-solve t)

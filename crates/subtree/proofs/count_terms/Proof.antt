@@ -29,7 +29,7 @@ is-covered-requires c κs =
     let args = start .args in
     let solved = c .before .before .before .before .before .before .solve in
     let stands = front (args .band) (args .height) (args .setpoints .now) (args .scratch .now) (solved .last .1 .1 .0) (start .pre) (solved .kept .1 .1 .0) (solved .ensures) in
-    rw (c .before .load2 .ensures .0) (stands .fits, stands .sorted)
+    rw (c .before .load2 .ensures .0) (record { within = stands .fits; small = stands .few; sorted = stands .sorted })
 
 add-result : tie.Need-add-result
 add-result c = search needs

@@ -13,7 +13,7 @@ shl-result c = search needs
 returns : tie.Need-returns
 returns c =
     let small : 2 ^ c .args .exponent ≤ 2 ^ 9 = pow-mono (c .pre) in
-    let is = one-shifted 64 (c .args .exponent) (omega arith) in
+    let is = one-shifted 32 (c .args .exponent) (omega arith) in
     (is, omega arith)
 
 pub power-of-two-spec : {M : Type 1} → statement M

@@ -34,25 +34,25 @@ module _ (t : ℕ) where
   -- what holds once the values that the children hand on are known
   abbrev Descends : lts.After-hand-to-children (calls t) (at-measure t) trace-level.Post → ℕ → Type 0
   Descends c below =
-      let args = c .before .before .before .before .before .args in
-      let parts = c .before .plan .result in
+      let args = c .before .before .before .before .before .before .before .before .args in
+      let parts = c .before .before .before .before .plan .result in
       Descent (args .scratch .now) (args .height) (args .depth) below (args .node) (args .value) (args .nodes .now) (args .values .now) (args .count) (parts .half) (parts .own) (parts .middle)
       (parts .end) (c .hand-to-children .result .left) (c .hand-to-children .result .right)
 
-  descent : (c : lts.After-hand-to-children (calls t) (at-measure t) trace-level.Post) (below : ℕ) → c .before .before .before .before .before .args .depth ≡ suc below → Descends c below
-  descent c below deeper = record { fits = c .before .before .before .before .before .pre .1 .1; deeper = deeper; planned = c .before .plan .ensures; handed = c .hand-to-children .ensures }
+  descent : (c : lts.After-hand-to-children (calls t) (at-measure t) trace-level.Post) (below : ℕ) → c .before .before .before .before .before .before .before .before .args .depth ≡ suc below → Descends c below
+  descent c below deeper = record { fits = c .before .before .before .before .before .before .before .before .pre .1 .1; deeper = deeper; planned = c .before .before .before .before .plan .ensures; handed = c .hand-to-children .ensures }
 
   -- the level is further below the children, or that of the grandchildren
-  further : (c : lts.After-hand-to-children (calls t) (at-measure t) trace-level.Post) → 2 < c .before .before .before .before .before .args .depth → Descends c (c .before .before .before .before .before .args .depth - 1)
-  further c more = descent c (c .before .before .before .before .before .args .depth - 1) (omega arith)
+  further : (c : lts.After-hand-to-children (calls t) (at-measure t) trace-level.Post) → 2 < c .before .before .before .before .before .before .before .before .args .depth → Descends c (c .before .before .before .before .before .before .before .before .args .depth - 1)
+  further c more = descent c (c .before .before .before .before .before .before .before .before .args .depth - 1) (omega arith)
 
-  last : (c : lts.After-hand-to-children (calls t) (at-measure t) trace-level.Post) → c .before .before .before .before .before .args .depth ≤ 2 → Descends c 1
-  last c least = descent c 1 (omega (arith, c .before .before .before .before .before .pre .1 .0))
+  last : (c : lts.After-hand-to-children (calls t) (at-measure t) trace-level.Post) → c .before .before .before .before .before .before .before .before .args .depth ≤ 2 → Descends c 1
+  last c least = descent c 1 (omega (arith, c .before .before .before .before .before .before .before .before .pre .1 .0))
 
   -- the height falls: a level that is below a node is no further down than the node is high
-  falling : (c : lts.After-hand-to-children (calls t) (at-measure t) trace-level.Post) → 2 < c .before .before .before .before .before .args .depth → c .before .before .before .before .before .args .height - 1 < t
+  falling : (c : lts.After-hand-to-children (calls t) (at-measure t) trace-level.Post) → 2 < c .before .before .before .before .before .before .before .before .args .depth → c .before .before .before .before .before .before .before .before .args .height - 1 < t
   falling c more =
-      let start = c .before .before .before .before .before in
+      let start = c .before .before .before .before .before .before .before .before in
       omega (arith, start .pre .0, start .pre .1 .1 .in-subtree)
 
   load-requires : lts.Need-load-requires (calls t) (at-measure t) trace-level.Post
@@ -66,8 +66,17 @@ module _ (t : ℕ) where
   plan-requires : lts.Need-plan-requires (calls t) (at-measure t) trace-level.Post
   plan-requires c κs = search needs
 
+  cast-own : lts.Need-cast-own (calls t) (at-measure t) trace-level.Post
+  cast-own c = search needs
+
+  cast-middle : lts.Need-cast-middle (calls t) (at-measure t) trace-level.Post
+  cast-middle c = search needs
+
+  cast-end : lts.Need-cast-end (calls t) (at-measure t) trace-level.Post
+  cast-end c = search needs
+
   hand-to-children-requires : lts.Need-hand-to-children-requires (calls t) (at-measure t) trace-level.Post
-  hand-to-children-requires c κs = let fits = c .before .before .before .before .pre .1 .1 in handing (c .plan .ensures) (fits .stretch) (fits .in-set)
+  hand-to-children-requires c κs = let fits = c .before .before .before .before .before .before .before .pre .1 .1 in handing (c .before .before .before .plan .ensures) (fits .stretch) (fits .in-set)
 
   mul-trace-level : lts.Need-mul-trace-level (calls t) (at-measure t) trace-level.Post
   mul-trace-level c = search needs
@@ -88,7 +97,7 @@ module _ (t : ℕ) where
   sub-trace-level-3 c = search needs
 
   mul-trace-level-2 : lts.Need-mul-trace-level-2 (calls t) (at-measure t) trace-level.Post
-  mul-trace-level-2 c = omega (arith, node-small (c .before .before .before .before .before .before .before .pre .1 .1))
+  mul-trace-level-2 c = omega (arith, node-small (c .before .before .before .before .before .before .before .before .before .before .pre .1 .1))
 
   trace-level-requires : lts.Need-trace-level-requires (calls t) (at-measure t) trace-level.Post
   trace-level-requires c κs =
@@ -106,7 +115,7 @@ module _ (t : ℕ) where
   part-trace-level-start-2 c = search needs
 
   part-trace-level-end-2 : lts.Need-part-trace-level-end-2 (calls t) (at-measure t) trace-level.Post
-  part-trace-level-end-2 c = search needs
+  part-trace-level-end-2 c = omega (arith, c .before .before .before .before .before .before .before .before .before .before .before .before .plan .ensures .all-places, c .before .before .before .before .before .before .before .before .before .before .before .before .before .before .before .before .pre .1 .1 .stretch .long)
 
   sub-trace-level-5 : lts.Need-sub-trace-level-5 (calls t) (at-measure t) trace-level.Post
   sub-trace-level-5 c = search needs
@@ -115,10 +124,10 @@ module _ (t : ℕ) where
   sub-trace-level-6 c = search needs
 
   mul-trace-level-4 : lts.Need-mul-trace-level-4 (calls t) (at-measure t) trace-level.Post
-  mul-trace-level-4 c = omega (arith, node-small (c .before .before .before .before .before .before .before .before .before .before .before .before .before .before .pre .1 .1))
+  mul-trace-level-4 c = omega (arith, node-small (c .before .before .before .before .before .before .before .before .before .before .before .before .before .before .before .before .before .pre .1 .1))
 
   add-trace-level : lts.Need-add-trace-level (calls t) (at-measure t) trace-level.Post
-  add-trace-level c = omega (arith, node-small (c .before .before .before .before .before .before .before .before .before .before .before .before .before .before .pre .1 .1))
+  add-trace-level c = omega (arith, node-small (c .before .before .before .before .before .before .before .before .before .before .before .before .before .before .before .before .before .pre .1 .1))
 
   trace-level-requires-2 : lts.Need-trace-level-requires-2 (calls t) (at-measure t) trace-level.Post
   trace-level-requires-2 c κs =
@@ -143,7 +152,7 @@ module _ (t : ℕ) where
   sub-trace-children-2 c = search needs
 
   mul-trace-children-2 : lts.Need-mul-trace-children-2 (calls t) (at-measure t) trace-level.Post
-  mul-trace-children-2 c = omega (arith, node-small (c .before .before .before .before .before .before .before .pre .1 .1))
+  mul-trace-children-2 c = omega (arith, node-small (c .before .before .before .before .before .before .before .before .before .before .pre .1 .1))
 
   trace-children-requires : lts.Need-trace-children-requires (calls t) (at-measure t) trace-level.Post
   trace-children-requires c κs =
@@ -160,16 +169,16 @@ module _ (t : ℕ) where
   part-trace-children-start-2 c = search needs
 
   part-trace-children-end-2 : lts.Need-part-trace-children-end-2 (calls t) (at-measure t) trace-level.Post
-  part-trace-children-end-2 c = search needs
+  part-trace-children-end-2 c = omega (arith, c .before .before .before .before .before .before .before .before .before .before .before .before .plan .ensures .all-places, c .before .before .before .before .before .before .before .before .before .before .before .before .before .before .before .before .pre .1 .1 .stretch .long)
 
   sub-trace-children-4 : lts.Need-sub-trace-children-4 (calls t) (at-measure t) trace-level.Post
   sub-trace-children-4 c = search needs
 
   mul-trace-children-4 : lts.Need-mul-trace-children-4 (calls t) (at-measure t) trace-level.Post
-  mul-trace-children-4 c = omega (arith, node-small (c .before .before .before .before .before .before .before .before .before .before .before .before .before .before .pre .1 .1))
+  mul-trace-children-4 c = omega (arith, node-small (c .before .before .before .before .before .before .before .before .before .before .before .before .before .before .before .before .before .pre .1 .1))
 
   add-trace-children : lts.Need-add-trace-children (calls t) (at-measure t) trace-level.Post
-  add-trace-children c = omega (arith, node-small (c .before .before .before .before .before .before .before .before .before .before .before .before .before .before .pre .1 .1))
+  add-trace-children c = omega (arith, node-small (c .before .before .before .before .before .before .before .before .before .before .before .before .before .before .before .before .before .pre .1 .1))
 
   trace-children-requires-2 : lts.Need-trace-children-requires-2 (calls t) (at-measure t) trace-level.Post
   trace-children-requires-2 c κs =
@@ -209,6 +218,9 @@ pub +trace-level-spec : {M : Type 1} → statement M
     (load-requires t)
     (returns t)
     (plan-requires t)
+    (cast-own t)
+    (cast-middle t)
+    (cast-end t)
     (hand-to-children-requires t)
     (mul-trace-level t)
     (sub-trace-level t)

@@ -9,7 +9,7 @@ load-requires : tie.Need-load-requires
 load-requires c κs = search needs
 
 is-covered-requires : tie.Need-is-covered-requires
-is-covered-requires c κs = rw (c .load .ensures .0) (c .before .pre .room, c .before .pre .sorted)
+is-covered-requires c κs = let answered = c .before .pre in rw (c .load .ensures .0) (record { within = answered .room; small = answered .near; sorted = answered .sorted })
 
 returns : tie.Need-returns
 returns c = rw (rw (c .before .before .load .ensures .0) at (sym (c .before .is-covered .ensures) ∙ c .if1 .taken))

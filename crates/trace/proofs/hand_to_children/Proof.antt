@@ -37,7 +37,7 @@ load-requires-4 c κs = search needs
 is-covered-requires : tie.Need-is-covered-requires
 is-covered-requires c κs =
     let left = c .before .before .before .before .before .pre .left-answered in
-    rw (c .load4 .ensures .0) (left .room, left .sorted)
+    rw (c .load4 .ensures .0) (record { within = left .room; small = left .near; sorted = left .sorted })
 
 add-load-2 : tie.Need-add-load-2
 add-load-2 c = search needs

@@ -46,7 +46,7 @@ returns c =
     let a = start .args in
     let low = c .before .before .before .before .before .before .before .before .load in
     let high = c .before .before .before .before .before .before .load2 in
-    let one = one-written (a .scratch .now) (a .count) (low .result) (high .result) (omega (arith, start .pre .0, start .pre .1)) (low .ensures .1) (high .ensures .1) in
+    let one = one-written (a .scratch .now) (a .count) (low .result) (high .result) (omega arith) (low .ensures .1) (high .ensures .1) in
     rw (c .before .store2 .ensures, c .before .before .before .before .store .ensures, low .ensures .0, high .ensures .0) (rw (low .ensures .0, high .ensures .0) at one)
 
 pub copy-window-spec : {M : Type 1} → statement M

@@ -17,8 +17,8 @@ cast-scratch-2 c =
     let fits = signed-fits (c .args .number) (c .pre .1) in
     rw (lowered (c .args .number) (c .pre .1), toZ-ofZ (sfits-widen {w = w16} {w′ = w32} tt fits)) fits
 
-mul-t7 : tie.Need-mul-t7
-mul-t7 c = search needs
+mul-t8 : tie.Need-mul-t8
+mul-t8 c = search needs
 
 slice-set-from-scratch : tie.Need-slice-set-from-scratch
 slice-set-from-scratch c = search needs
@@ -38,7 +38,7 @@ store-spec =
     cast-scratch
     sub-scratch
     cast-scratch-2
-    mul-t7
+    mul-t8
     slice-set-from-scratch
     same-length
     returns)

@@ -40,7 +40,7 @@ returns-2 c =
     let start = c .before .before .before .before .before .before .before in
     let a = start .args in
     rw (c .before .store2 .ensures, c .before .before .before .before .store .ensures, le-leb (a .low) (a .high) (c .before .before .before .before .before .before .if1 .left))
-    (one-written (a .scratch .now) (a .count) (a .low) (a .high) (start .pre .0) (start .pre .1) (start .pre .2))
+    (one-written (a .scratch .now) (a .count) (a .low) (a .high) (start .pre .0 .within) (start .pre .1) (start .pre .2))
 
 pub write-between-spec : {M : Type 1} → statement M
 write-between-spec =

@@ -8,24 +8,20 @@ use Rattle.build.proofs.tree.build_tree.Tie as tie
 count-terms-requires : tie.Need-count-terms-requires
 count-terms-requires c κs = search needs
 
-least-band-within-requires : tie.Need-least-band-within-requires
-least-band-within-requires c κs =
+solve-least-band-requires : tie.Need-solve-least-band-requires
+solve-least-band-requires c κs =
     let start = c .before .before .before .before .before in
     let args = start .args in
     let counted = c .before .before .count-terms in
     searchable (args .band) (args .height) (args .value) (args .setpoints .now) (args .nodes .now) (args .values .now) (args .scratch .now) (start .pre) (counted .last .1 .1 .1 .0) (counted .result) (counted .kept .1 .1 .1 .0) (counted .ensures)
 
-solve-requires : tie.Need-solve-requires
-solve-requires c κs = search needs
-
 trace-requires : tie.Need-trace-requires
 trace-requires c κs =
-    let start = c .before .before .before .before .before .before .before .before .before .before .before .before .before in
+    let start = c .before .before .before .before .before .before .before .before .before .before in
     let args = start .args in
-    let counted = c .before .before .before .before .before .before .before .before .before .before .count-terms in
-    let found = c .before .before .before .before .before .before .before .least-band-within in
-    let again = c .before .before .before .before .solve in
-    levels-fit (args .band) (args .height) (args .value) (args .setpoints .now) (args .nodes .now) (args .values .now) (args .scratch .now) (start .pre) (again .last .1 .1 .0) (found .result) (again .kept .1 .1 .0 ∙ found .kept .1 .1 .1 .1 .0 ∙ counted .kept .1 .1 .1 .0) (again .ensures)
+    let counted = c .before .before .before .before .before .before .before .count-terms in
+    let found = c .before .before .before .before .solve-least-band in
+    levels-fit (args .band) (args .height) (args .value) (args .setpoints .now) (args .nodes .now) (args .values .now) (args .scratch .now) (start .pre) (found .last .1 .1 .1 .1 .0) (found .result) (found .kept .1 .1 .1 .1 .0 ∙ counted .kept .1 .1 .1 .0) (found .ensures .in-scratch)
 
 same-length : tie.Need-same-length
 same-length c = search needs
@@ -38,15 +34,14 @@ same-length-3 c = search needs
 
 returns : tie.Need-returns
 returns c =
-    let start = c .before .before .before .before .before .before .before .before .before .before .before .before .before .before .before .before .before in
+    let start = c .before .before .before .before .before .before .before .before .before .before .before .before .before .before in
     let args = start .args in
-    let counted = c .before .before .before .before .before .before .before .before .before .before .before .before .before .before .count-terms in
-    let found = c .before .before .before .before .before .before .before .before .before .before .before .least-band-within in
-    let again = c .before .before .before .before .before .before .before .before .solve in
+    let counted = c .before .before .before .before .before .before .before .before .before .before .before .count-terms in
+    let found = c .before .before .before .before .before .before .before .before .solve-least-band in
     let traced = c .before .before .before .trace in (
-      tree-built (args .band) (args .height) (args .value) (args .setpoints .now) (args .nodes .now) (args .values .now) (args .scratch .now) (start .pre) (counted .last .1 .1 .1 .0) (again .last .1 .1 .0) (counted .result) (found .result) (traced .result) (traced .last .1 .1 .1 .0) (traced .last .1 .1 .1 .1 .0)
-          (counted .ensures) (found .ensures .0) (again .ensures) (traced .ensures),
-      again .kept .1 .1 .0 ∙ found .kept .1 .1 .1 .1 .0 ∙ counted .kept .1 .1 .1 .0,
+      tree-built (args .band) (args .height) (args .value) (args .setpoints .now) (args .nodes .now) (args .values .now) (args .scratch .now) (start .pre) (counted .last .1 .1 .1 .0) (found .last .1 .1 .1 .1 .0) (counted .result) (found .result) (traced .result) (traced .last .1 .1 .1 .0) (traced .last .1 .1 .1 .1 .0)
+          (counted .ensures) (found .ensures .least-within) (found .ensures .in-scratch) (traced .ensures),
+      found .kept .1 .1 .1 .1 .0 ∙ counted .kept .1 .1 .1 .0,
     )
 
 pub build-tree-spec : {M : Type 1} → statement M
@@ -54,8 +49,7 @@ build-tree-spec =
     tie.close
     (tie.spec
     count-terms-requires
-    least-band-within-requires
-    solve-requires
+    solve-least-band-requires
     trace-requires
     same-length
     same-length-2

@@ -6,15 +6,15 @@ use Rattle.build.proofs.tree.least_band_within.Statement.{statement}
 use Rattle.build.proofs.tree.least_band_within.Tie as tie
 
 abbrev Inv-loop : tie.InvT-loop
-Inv-loop setpoints value budget top scratch₀ height low₀ high₀ scratch low high = Between height value budget top setpoints scratch₀ scratch low high
+Inv-loop setpoints value budget top scratch₀ height solved₀ low₀ high₀ scratch solved low high = Between height value budget top setpoints scratch₀ scratch low high solved
 
 abbrev μ-loop : tie.MeasureT-loop
-μ-loop setpoints value budget top scratch₀ height low₀ high₀ scratch low high = high - low
+μ-loop setpoints value budget top scratch₀ height solved₀ low₀ high₀ scratch solved low high = high - low
 
 loop-holds : tie.Need-loop-holds Inv-loop μ-loop
 loop-holds c =
     let args = c .args in
-    search-starts (args .height) (args .value) (args .budget) (args .top) (args .setpoints .now) (args .scratch .now) (c .pre)
+    search-starts (args .height) (args .value) (args .budget) (args .top) (args .solved) (args .setpoints .now) (args .scratch .now) (c .pre)
 
 sub-middle : tie.Need-sub-middle Inv-loop μ-loop
 sub-middle c = omega arith
@@ -27,7 +27,7 @@ count-terms-requires c κs =
     let start = c .before .before .before in
     let args = start .args in
     let loop = c .before .before .loop in
-    solvable-narrower (args .height) (args .value) (args .budget) (args .top) (args .setpoints .now) (args .scratch .now) (start .pre) (loop .scratch) (loop .inv .same-length) _ (omega arith)
+    solvable-narrower (args .height) (args .value) (args .budget) (args .top) (args .solved) (args .setpoints .now) (args .scratch .now) (start .pre) (loop .scratch) (loop .inv .same-length) _ (omega arith)
 
 loop-less : tie.Need-loop-less Inv-loop μ-loop
 loop-less c = omega arith
@@ -37,7 +37,7 @@ loop-again c =
     let args = c .before .before .before .before .before .before .args in
     let loop = c .before .before .before .before .before .loop in
     let counted = c .before .before .count-terms in
-    enough-at (args .height) (args .value) (args .budget) (args .top) (args .setpoints .now) (args .scratch .now) (loop .scratch) (counted .last .1 .1 .1 .0) (loop .low) (loop .high) _ (counted .result) (loop .inv) (counted .kept .1 .1 .1 .0) (counted .ensures) (omega arith) (omega arith) (omega arith)
+    enough-at (args .height) (args .value) (args .budget) (args .top) (args .solved) (args .setpoints .now) (args .scratch .now) (loop .scratch) (counted .last .1 .1 .1 .0) (loop .low) (loop .high) _ (counted .result) (loop .solved) (loop .inv) (counted .kept .1 .1 .1 .0) (counted .ensures) (omega arith) (omega arith) (omega arith)
 
 add-low : tie.Need-add-low Inv-loop μ-loop
 add-low c = omega arith
@@ -50,7 +50,7 @@ loop-again-2 c =
     let args = c .before .before .before .before .before .before .args in
     let loop = c .before .before .before .before .before .loop in
     let counted = c .before .before .count-terms in
-    too-many-at (args .height) (args .value) (args .budget) (args .top) (args .setpoints .now) (args .scratch .now) (loop .scratch) (counted .last .1 .1 .1 .0) (loop .low) (loop .high) _ (counted .result) (loop .inv) (counted .kept .1 .1 .1 .0) (counted .ensures) (omega arith) (omega arith)
+    too-many-at (args .height) (args .value) (args .budget) (args .top) (args .solved) (args .setpoints .now) (args .scratch .now) (loop .scratch) (counted .last .1 .1 .1 .0) (loop .low) (loop .high) _ (counted .result) (loop .solved) (loop .inv) (counted .kept .1 .1 .1 .0) (counted .ensures) (omega arith) (omega arith)
 
 same-length : tie.Need-same-length Inv-loop μ-loop
 same-length c = omega arith
@@ -59,7 +59,7 @@ returns : tie.Need-returns Inv-loop μ-loop
 returns c =
     let args = c .before .before .args in
     let loop = c .before .loop in
-    (search-ends (args .height) (args .value) (args .budget) (args .top) (args .setpoints .now) (args .scratch .now) (loop .scratch) (loop .low) (loop .high) (loop .inv) (omega arith), loop .inv .same-length)
+    search-ends (args .height) (args .value) (args .budget) (args .top) (args .solved) (args .setpoints .now) (args .scratch .now) (loop .scratch) (loop .low) (loop .high) (loop .solved) (loop .inv) (omega arith)
 
 pub least-band-within-spec : {M : Type 1} → statement M
 least-band-within-spec =

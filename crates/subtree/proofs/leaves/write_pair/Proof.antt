@@ -17,8 +17,8 @@ write-single-requires c κs = search needs
 write-single-requires-2 : tie.Need-write-single-requires-2
 write-single-requires-2 c κs = search needs
 
-combine-leaves-requires : tie.Need-combine-leaves-requires
-combine-leaves-requires c κs = search needs
+combine-singles-requires : tie.Need-combine-singles-requires
+combine-singles-requires c κs = search needs
 
 same-length : tie.Need-same-length
 same-length c = search needs
@@ -31,7 +31,7 @@ returns c =
     let right = c .before .before .before .before .before .before .before .before .before .slot-ends2 in
     let first = c .before .before .before .before .before .before .before .write-single in
     let second = c .before .before .before .before .write-single2 in
-    let both = c .before .combine-leaves in
+    let both = c .before .combine-singles in
     pair-solved (a .band) (a .left) (a .right) (left .result .low) (left .result .high) (right .result .low) (right .result .high)
     (a .scratch .now) (first .last .0) (second .last .0) (both .last .0) (rw (toZ-ofZ (start .fits .left)) at (left .ensures)) (rw (toZ-ofZ (start .fits .right)) at (right .ensures)) (first .ensures) (second .ensures) (both .ensures)
 
@@ -43,6 +43,6 @@ write-pair-spec =
     slot-ends-requires-2
     write-single-requires
     write-single-requires-2
-    combine-leaves-requires
+    combine-singles-requires
     same-length
     returns)

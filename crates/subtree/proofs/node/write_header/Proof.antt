@@ -1,8 +1,8 @@
--- `subtree::write_header` meets its contract.
+-- `subtree::node::write_header` meets its contract.
 use borrow.Author.Needs.{needs}
 use Rattle.subtree.proofs.LeafAnswers.{headed}
-use Rattle.subtree.proofs.write_header.Statement.{statement}
-use Rattle.subtree.proofs.write_header.Tie as tie
+use Rattle.subtree.proofs.node.write_header.Statement.{statement}
+use Rattle.subtree.proofs.node.write_header.Tie as tie
 
 store-requires : tie.Need-store-requires
 store-requires c κs = search needs

@@ -1,8 +1,8 @@
--- `subtree::leaves::write_single` meets its contract.
+-- `subtree::node::write_single` meets its contract.
 use Rattle.subtree.proofs.LeafAnswers.{single-at}
 use borrow.Author.Needs.{needs}
-use Rattle.subtree.proofs.leaves.write_single.Statement.{statement}
-use Rattle.subtree.proofs.leaves.write_single.Tie as tie
+use Rattle.subtree.proofs.node.write_single.Statement.{statement}
+use Rattle.subtree.proofs.node.write_single.Tie as tie
 
 store-requires : tie.Need-store-requires
 store-requires c κs = search needs
@@ -33,7 +33,7 @@ returns c =
     let start = c .before .before .before .before .before .before .before .before .before .before .before .before in
     let a = start .args in
     rw (c .before .store4 .ensures, c .before .before .before .before .store3 .ensures, c .before .before .before .before .before .before .before .store2 .ensures, c .before .before .before .before .before .before .before .before .before .before .store .ensures)
-    (single-at (a .scratch .now) (a .place) (a .window .low) (a .window .high) (start .pre .0) (start .pre .1) (start .pre .2))
+    (single-at (a .scratch .now) (a .place) (a .number) (a .window .low) (a .window .high) (start .pre .0) (start .pre .2) (start .pre .3) (start .pre .4))
 
 pub write-single-spec : {M : Type 1} → statement M
 write-single-spec =

@@ -1,9 +1,9 @@
--- `subtree::leaves::write_double` meets its contract.
+-- `subtree::node::write_double` meets its contract.
 use native.Mathlib.Omega.{arith}
 use Rattle.subtree.proofs.LeafAnswers.{double-written}
 use borrow.Author.Needs.{needs}
-use Rattle.subtree.proofs.leaves.write_double.Statement.{statement}
-use Rattle.subtree.proofs.leaves.write_double.Tie as tie
+use Rattle.subtree.proofs.node.write_double.Statement.{statement}
+use Rattle.subtree.proofs.node.write_double.Tie as tie
 
 write-header-requires : tie.Need-write-header-requires
 write-header-requires c κs = search needs
@@ -29,8 +29,8 @@ returns c =
     let a = start .args in
     let header = c .before .before .before .before .before .before .before .before .before .before .before .before .before .write-header in
     rw (c .before .store4 .ensures, c .before .before .before .before .store3 .ensures, c .before .before .before .before .before .before .before .store2 .ensures, c .before .before .before .before .before .before .before .before .before .before .store .ensures)
-    (double-written (a .scratch .now) (header .last .0) (a .first .low) (a .first .high) (a .second .low) (a .second .high) (omega arith) (header .ensures)
-    (start .pre .1) (start .pre .2) (start .pre .3) (start .pre .4))
+    (double-written (a .scratch .now) (header .last .0) (a .number) (a .first .low) (a .first .high) (a .second .low) (a .second .high) (omega arith) (header .ensures)
+    (start .pre .2) (start .pre .3) (start .pre .4) (start .pre .5))
 
 pub write-double-spec : {M : Type 1} → statement M
 write-double-spec =
