@@ -90,6 +90,7 @@ module _ (before : List ℤ) (left₀ lefts₀ right₀ rights₀ : ℕ) (joinab
           let of-right = joined .of-right in
           let placed = joinable .placed in
           record {
+            header-same = λ place below. written .header-same place below ∙ joined .so-far .header-same place below;
             others-same = λ place above. written .others-same place (omega arith) ∙ joined .so-far .others-same place above;
             rest-placed = record { room = omega arith; apart = omega arith; within = omega arith; small = omega arith };
             rest-later = omega arith;
@@ -144,6 +145,7 @@ module _ (before : List ℤ) (left₀ lefts₀ right₀ rights₀ : ℕ) (joinab
           let of-right = joined .of-right in
           let placed = joinable .placed in
           record {
+            header-same = joined .so-far .header-same;
             others-same = joined .so-far .others-same;
             rest-placed = record { room = omega arith; apart = omega arith; within = omega arith; small = omega arith };
             rest-later = omega arith;

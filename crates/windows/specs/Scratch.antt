@@ -60,9 +60,10 @@ pub record Written (windows : List Window) (end : ℕ) (before after : List ℤ)
   pub header-same : (place : ℕ) → place < 2 → at after place ≡ at before place
   pub others-same : (place : ℕ) → end ≤ place → at after place ≡ at before place
 
--- after what is in either of two lists was written from place 2 on, up to the first two windows that meet: what is left of both lists has all that is in both,
--- and nothing is left where no two windows meet
+-- after what is in either of two lists was written from place 2 on, up to the first two windows that meet: what is left of the lists there, which has all that is in both;
+-- nothing is left where no two windows meet, and the join is written
 pub record Joined (left leftCount right rightCount : ℕ) (before after : List ℤ) (nextLeft lefts nextRight rights : ℕ) : Type 0 where
+  pub header-same : (place : ℕ) → place < 2 → at after place ≡ at before place
   pub others-same : (place : ℕ) → 2 + 2 * (leftCount + rightCount) ≤ place → at after place ≡ at before place
   pub rest-placed : Placed (length before) nextLeft lefts nextRight rights
   pub rest-later : left ≤ nextLeft
