@@ -1,0 +1,91 @@
+"""The benchmark's requests: what each call is asked, for bench/run on this machine and for firmware/test on the panel's core.
+
+Reading a text is counted by a call that has nothing else to do: the least band for a budget of 1,024, refused with 5 once the text is read.
+"""
+import pathlib
+import random
+from collections import namedtuple
+
+EXAMPLES = pathlib.Path(__file__).resolve().parent.parent / "examples"
+
+# The record of a case is bytes, or the name of the case that builds it.
+Case = namedtuple("Case", "name call number text record refusal", defaults=(0, b"", b"", 0))
+
+
+def typed(value):
+    return b"%s%d,%02d" % (b"-" if value < 0 else b"", abs(value) // 100, abs(value) % 100)
+
+
+def profile(band, setpoints, rest=1400):
+    return b"".join(typed(value) + b"\n" for value in [rest, band] + setpoints)
+
+
+def packed(slots, band, rest, terms):
+    """A record, by document 01's table of fields."""
+    fields = [(1, 4), (slots - 1, 9), (band, 16), (rest, 16), (len(terms), 10)]
+    for node, value in terms:
+        fields += [(node, 10), (value, 16)]
+    bits = "".join(format(number % (1 << width), f"0{width}b") for number, width in fields)
+    bits += "0" * (-len(bits) % 8)
+    return bytes(int(bits[at:at + 8], 2) for at in range(0, len(bits), 8))
+
+
+def shapes():
+    """Setpoints by the name of their shape."""
+    rng = random.Random(512)
+    plateaus = [rng.randrange(0, 2001) for _ in range(32)]
+    spread = [40000 * slot // 511 - 20000 for slot in range(512)]
+    return {
+        "512 random": [rng.randrange(-20000, 20001) for _ in range(512)],
+        "512 in steps": [plateaus[slot // 16] for slot in range(512)],
+        "512 on a ramp": [37 * slot for slot in range(512)],
+        "512 of two values": [1000 + 1000 * (slot % 2) for slot in range(512)],
+        "512 equal": [1450] * 512,
+        "512 extremes": [rng.choice([-20000, 20000]) for _ in range(512)],
+        "300 random": [rng.randrange(0, 2001) for _ in range(300)],
+        "512 evenly spread": random.Random(39).sample(spread, 512),
+    }
+
+
+def builds():
+    samples = [(path.name, path.read_bytes()) for path in sorted(EXAMPLES.glob("*.txt")) if path.name != "expected-output.txt"]
+    cases = [Case(f"build {name}", "text_to_record", text=text) for name, text in samples]
+    setpoints = shapes()
+    for shape, band in [("512 random", 0), ("512 random", 25), ("512 random", 300), ("512 random", 40000),
+                        ("512 in steps", 25), ("512 in steps", 300), ("512 on a ramp", 25), ("512 on a ramp", 300),
+                        ("512 of two values", 0), ("512 of two values", 300), ("512 equal", 25),
+                        ("512 extremes", 0), ("512 extremes", 40000), ("300 random", 25), ("512 evenly spread", 38)]:
+        cases.append(Case(f"build {shape}, band {typed(band).decode()}", "text_to_record", text=profile(band, setpoints[shape])))
+    return cases
+
+
+def readings():
+    """Texts of 514 lines, read and nothing more."""
+    rng = random.Random(514)
+    lines = {
+        "random lines": [b"%d,%02d" % (rng.randrange(200), rng.randrange(100)) for _ in range(512)],
+        "the longest lines": [b"-199,99"] * 512,
+        "the shortest lines": [b"0"] * 512,
+    }
+    return [Case(f"read {name}", "least_band_of_text", 1024, b"\n".join([b"14,00", b"0,25", *setpoints, b""]), refusal=5)
+            for name, setpoints in lines.items()]
+
+
+def other_calls():
+    """The calls that build nothing."""
+    rng = random.Random(1023)
+    full = packed(512, 40000, 0, [(node, rng.randrange(-20000, 20001)) for node in range(1, 1024)])
+    noisy = (EXAMPLES / "noisy.txt").read_bytes()
+    setpoints = shapes()
+    cases = [
+        Case("one slot, 1,023 terms", "record_slot", 511, record=full),
+        Case("one slot, noisy.txt", "record_slot", 300, record="build noisy.txt"),
+        Case("check 512 random, 1,023 terms", "record_against_text", text=profile(0, setpoints["512 random"]), record=full),
+        Case("check 512 random, band 3,00", "record_against_text", text=profile(300, setpoints["512 random"]),
+             record="build 512 random, band 3,00"),
+        Case("check noisy.txt", "record_against_text", text=noisy, record="build noisy.txt"),
+    ]
+    for budget in [0, 16, 255]:
+        for shape in ["512 random", "512 on a ramp"]:
+            cases.append(Case(f"least band of {shape}, budget {budget}", "least_band_of_text", budget, profile(0, setpoints[shape])))
+    return readings() + cases
