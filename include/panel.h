@@ -9,9 +9,13 @@
  *
  * What the caller owes:
  * - every pointer is valid for the length beside it, and not null, also where that length is 0;
- * - no length is above PTRDIFF_MAX, and size_t is 64 bits wide: where it is not, the compiler stops below;
+ * - no length is above PTRDIFF_MAX;
  * - the bytes that panel_text_to_record may write do not overlap the text;
- * - 40 KiB of stack below the call; bench/run measures what each call takes.
+ * - 40 KiB of stack below the call; bench/run and, on the panel's core, firmware/test measure what each call takes.
+ *
+ * A length is a uint64_t on every core, as the library takes it, and a size_t of 32 bits is widened at the call. So include
+ * this header: a declaration of one's own with size_t would link on a 32-bit core and answer wrongly. Beside the header it
+ * does not compile.
  *
  * The calls take no heap and keep nothing from one call to the next.
  */
@@ -20,11 +24,6 @@
 
 #include <stddef.h>
 #include <stdint.h>
-
-/* The library takes every length in 64 bits: with another size_t a call would link, and answer wrongly. */
-#if SIZE_MAX != UINT64_MAX
-#error "panel.h: size_t must be 64 bits wide, as it is on the machine that the library is compiled for (x86-64)"
-#endif
 
 #ifdef __cplusplus
 extern "C" {
@@ -70,22 +69,22 @@ enum panel_refusal {
  * Bytes of `record` past the record hold what they held.
  * Gives panel_bytes_written, panel_terms, panel_greatest_error.
  * Refuses with 1, 2, 3 and 4, by lines from the first; then 6. */
-uint64_t panel_text_to_record(const uint8_t *text, size_t text_len, uint8_t *record, size_t record_len);
+uint64_t panel_text_to_record(const uint8_t *text, uint64_t text_len, uint8_t *record, uint64_t record_len);
 
 /* Restores the setpoint of one slot; slots are numbered from 0. `record_len` is exactly the record's.
  * Gives panel_setpoint.
  * Refuses with 7, 2, 3, 8, 10, in this order. */
-uint64_t panel_record_slot(const uint8_t *record, size_t record_len, uint64_t slot);
+uint64_t panel_record_slot(const uint8_t *record, uint64_t record_len, uint64_t slot);
 
 /* Checks whether a record keeps its own band for a text's setpoints, with its own rest value.
  * Gives panel_kept with panel_check_error where it does, and panel_lowest_slot where it does not.
  * Refuses the text with 1, 2, 3 and 4, by lines from the first; then with 7, 2, 3, 8, 9, in this order. */
-uint64_t panel_record_against_text(const uint8_t *record, size_t record_len, const uint8_t *text, size_t text_len);
+uint64_t panel_record_against_text(const uint8_t *record, uint64_t record_len, const uint8_t *text, uint64_t text_len);
 
 /* Finds the least band that some synopsis of at most `budget` terms keeps. The text's own band has no part in it.
  * Gives panel_least_band.
  * Refuses with 1, 2, 3 and 4, by lines from the first; then 5. */
-uint64_t panel_least_band_of_text(const uint8_t *text, size_t text_len, uint64_t budget);
+uint64_t panel_least_band_of_text(const uint8_t *text, uint64_t text_len, uint64_t budget);
 
 /* Field 0 of a result is the lowest. */
 static inline uint16_t panel_field(uint64_t result, unsigned field)

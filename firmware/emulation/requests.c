@@ -1,0 +1,389 @@
+/* Makes inputs, calls every function of panel.h with them and prints the results and the bytes of each record that is
+ * built. It prints the same on every machine, or the library does not do the same there.
+ *
+ * The benchmark's inputs stand in benchmark.h, which firmware/test writes from bench/cases.py. */
+#include "panel.h"
+#include "platform.h"
+
+#include <stdbool.h>
+#include <string.h>
+
+enum call { TEXT_TO_RECORD, RECORD_SLOT, RECORD_AGAINST_TEXT, LEAST_BAND_OF_TEXT, CALLS };
+
+static const char *const CALL_NAMES[CALLS] = {
+    "text_to_record", "record_slot", "record_against_text", "least_band_of_text"
+};
+
+/* A row of the benchmark: its record is one that was made elsewhere, or the one built of the text of an earlier row. */
+struct row {
+    const char *name;
+    enum call call;
+    uint64_t number;
+    const uint8_t *text;
+    size_t text_len;
+    const uint8_t *record;
+    size_t record_len;
+    int built_by;
+};
+
+#include "benchmark.h"
+
+enum { PAINT = 0xA5 };
+
+/* The request that is made, and its result. */
+static enum call asked;
+static const uint8_t *text;
+static size_t text_len;
+static const uint8_t *record;
+static size_t record_len;
+static uint64_t number;
+static size_t destination_len;
+static uint64_t result;
+
+static uint8_t built[PANEL_MOST_RECORD_BYTES];
+static uint8_t changed[PANEL_MOST_RECORD_BYTES];
+static uint8_t typed[PANEL_MOST_TEXT_BYTES + PANEL_LONGEST_LINE];
+
+static unsigned requests_made;
+static struct taken most[CALLS];
+
+/* A line of output; a longer one goes out in parts. */
+static char line[80];
+static size_t line_len;
+
+static void send_line(void (*out)(const char *))
+{
+    line[line_len] = 0;
+    out(line);
+    line_len = 0;
+}
+
+static void add_character(char character)
+{
+    if (line_len + 1 == sizeof line)
+        send_line(print);
+    line[line_len++] = character;
+}
+
+static void add_text(const char *characters)
+{
+    while (*characters != 0)
+        add_character(*characters++);
+}
+
+static void add_number(uint32_t value)
+{
+    if (value >= 10)
+        add_number(value / 10);
+    add_character((char)('0' + value % 10));
+}
+
+static void add_byte(uint8_t byte)
+{
+    static const char digits[] = "0123456789abcdef";
+    add_character(digits[byte / 16]);
+    add_character(digits[byte % 16]);
+}
+
+static void print_figures(const char *name, struct taken taken)
+{
+    add_number(taken.instructions);
+    add_character(' ');
+    add_number(taken.stack);
+    add_character(' ');
+    add_text(name);
+    add_character('\n');
+    send_line(print_figure);
+}
+
+static void call(void)
+{
+    switch (asked) {
+    case TEXT_TO_RECORD:
+        result = panel_text_to_record(text, text_len, built, destination_len);
+        break;
+    case RECORD_SLOT:
+        result = panel_record_slot(record, record_len, number);
+        break;
+    case RECORD_AGAINST_TEXT:
+        result = panel_record_against_text(record, record_len, text, text_len);
+        break;
+    default:
+        result = panel_least_band_of_text(text, text_len, number);
+    }
+}
+
+static void print_result(void)
+{
+    add_text(CALL_NAMES[asked]);
+    for (unsigned field = 0; field < 4; field++) {
+        add_character(' ');
+        add_number(panel_field(result, field));
+    }
+    if (asked == TEXT_TO_RECORD) {
+        size_t used = sizeof built;
+        add_character(' ');
+        while (used > 0 && built[used - 1] == PAINT)
+            used--;
+        for (size_t i = 0; i < used; i++)
+            add_byte(built[i]);
+    }
+    add_character('\n');
+    send_line(print);
+}
+
+static struct taken ask(enum call which)
+{
+    asked = which;
+    if (which == TEXT_TO_RECORD)
+        memset(built, PAINT, sizeof built);
+    struct taken taken = measured(call);
+    if (most[which].instructions < taken.instructions)
+        most[which].instructions = taken.instructions;
+    if (most[which].stack < taken.stack)
+        most[which].stack = taken.stack;
+    requests_made++;
+    print_result();
+    return taken;
+}
+
+static void ask_slot(uint64_t slot)
+{
+    number = slot;
+    ask(RECORD_SLOT);
+}
+
+static void ask_least_band(uint64_t budget)
+{
+    number = budget;
+    ask(LEAST_BAND_OF_TEXT);
+}
+
+/* Builds the record of the text and takes it as the record that is asked about. */
+static struct taken build(void)
+{
+    destination_len = sizeof built;
+    struct taken taken = ask(TEXT_TO_RECORD);
+    record = built;
+    record_len = panel_bytes_written(result);
+    return taken;
+}
+
+/* All calls on a profile's text and on the record that is built of it. */
+static void fire(unsigned slots)
+{
+    build();
+    ask(RECORD_AGAINST_TEXT);
+    ask_slot(0);
+    ask_slot(slots / 3);
+    ask_slot(slots / 2);
+    ask_slot(slots - 1);
+    ask_slot(slots);
+    ask_least_band(0);
+    ask_least_band(1);
+    ask_least_band(slots / 4);
+}
+
+static struct taken ask_row(const struct row *row)
+{
+    text = row->text;
+    text_len = row->text_len;
+    record = row->record;
+    record_len = row->record_len;
+    number = row->number;
+    if (row->call == TEXT_TO_RECORD)
+        return build();
+    if (row->built_by >= 0) {
+        ask_row(&BENCHMARK[row->built_by]);
+        text = row->text;
+        text_len = row->text_len;
+        number = row->number;
+    }
+    return ask(row->call);
+}
+
+static void ask_benchmark(void)
+{
+    for (size_t i = 0; i < sizeof BENCHMARK / sizeof BENCHMARK[0]; i++) {
+        print_figures(BENCHMARK[i].name, ask_row(&BENCHMARK[i]));
+        if (BENCHMARK[i].call == TEXT_TO_RECORD) {
+            ask(RECORD_AGAINST_TEXT);
+            ask_slot(0);
+            ask_slot(256);
+        }
+    }
+}
+
+/* Numbers without order (Marsaglia's xorshift). */
+static uint32_t state = 2463534242u;
+
+static uint32_t below(uint32_t limit)
+{
+    state ^= state << 13;
+    state ^= state >> 17;
+    state ^= state << 5;
+    return state % limit;
+}
+
+static void type_character(char character)
+{
+    typed[text_len++] = (uint8_t)character;
+}
+
+/* Types a value in hundredths as a line. */
+static void type_value(int32_t value)
+{
+    uint32_t size = (uint32_t)(value < 0 ? -value : value);
+    if (value < 0)
+        type_character('-');
+    if (size >= 10000)
+        type_character((char)('0' + size / 10000));
+    if (size >= 1000)
+        type_character((char)('0' + size / 1000 % 10));
+    type_character((char)('0' + size / 100 % 10));
+    type_character(',');
+    type_character((char)('0' + size / 10 % 10));
+    type_character((char)('0' + size % 10));
+    type_character('\n');
+}
+
+enum shape { ANYWHERE, NEAR, IN_STEPS, OF_THREE_VALUES, SHAPES };
+
+static int32_t setpoint(enum shape shape, int32_t before)
+{
+    switch (shape) {
+    case ANYWHERE:
+        return (int32_t)below(40001) - 20000;
+    case NEAR:
+        return 1400 + (int32_t)below(200);
+    case IN_STEPS:
+        return below(4) > 0 ? before : (int32_t)below(4000) - 2000;
+    default:
+        return 500 * (int32_t)below(3);
+    }
+}
+
+static void type_profile(enum shape shape, unsigned slots, int32_t band)
+{
+    int32_t value = 1400;
+    text = typed;
+    text_len = 0;
+    type_value(value);
+    type_value(band);
+    for (unsigned slot = 0; slot < slots; slot++) {
+        value = setpoint(shape, value);
+        type_value(value);
+    }
+}
+
+static void fire_profiles(void)
+{
+    static const unsigned lengths[] = { 1, 2, 3, 4, 5, 7, 8, 9, 13, 16, 17, 27, 32, 50, 64, 100, 512 };
+    static const int32_t bands[] = { 0, 30, 700 };
+    for (size_t i = 0; i < sizeof lengths / sizeof lengths[0]; i++) {
+        for (size_t j = 0; j < sizeof bands / sizeof bands[0]; j++) {
+            for (int shape = 0; shape < SHAPES; shape++) {
+                if (lengths[i] < 512 || (int)j == shape) {
+                    type_profile((enum shape)shape, lengths[i], bands[j]);
+                    fire(lengths[i]);
+                }
+            }
+        }
+    }
+}
+
+static void take_text(const char *characters)
+{
+    text = (const uint8_t *)characters;
+    text_len = strlen(characters);
+}
+
+static const char GOOD[] = "14,00\n0,25\n14,10\n13,90\n20,00\n19,50\n";
+
+/* Texts that are refused, and some just within the limits. */
+static void ask_texts(void)
+{
+    static const char *const texts[] = {
+        "", "\n", "14,00", "14,00\n", "14,00\n0,25\n", "14,00\n0,25", "14,00\n0,25\n1", "14,00\n0,25\n14,\n", "14,00\n0,25\n1.450\n",
+        "14,00\n0,25\n+3\n", "14,00\n0,25\n1234\n", "14,00\n0,25\n200,00\n", "14,00\n0,25\n200,01\n", "14,00\n0,25\n-200,00\n",
+        "14,00\n0,25\n-200,01\n", "999,01\n", "14,00\n-0,01\n1\n", "14,00\n400,00\n1\n", "14,00\n400,01\n1\n", "14,00\n-0\n-0,00\n",
+        "14 \n0,25\n1\n", "14,00\n0,25\n1\n\n", "14,00\r\n0,25\r\n1\r\n", "-,5\n0\n1\n", "--1\n0\n1\n", "1\n2\n3\n4\n5\n6\n7\n8\n9"
+    };
+    record = changed;
+    for (size_t i = 0; i < sizeof texts / sizeof texts[0]; i++) {
+        take_text(texts[i]);
+        build();
+        record_len = 0;
+        ask(RECORD_AGAINST_TEXT);
+        ask_least_band(1024);
+        ask_least_band(2);
+    }
+    type_profile(NEAR, 512, 10);
+    type_character('0');
+    build();
+}
+
+/* Destinations of every length about the record's, and numbers that do not fit 32 bits. */
+static void ask_limits(void)
+{
+    static const uint64_t numbers[] = { 1023, 1024, 65536, 1ull << 32, (1ull << 32) + 1, (1ull << 63) + 2, UINT64_MAX };
+    take_text(GOOD);
+    for (destination_len = 0; destination_len < 14; destination_len++)
+        ask(TEXT_TO_RECORD);
+    build();
+    for (size_t i = 0; i < sizeof numbers / sizeof numbers[0]; i++) {
+        ask_slot(numbers[i]);
+        ask_least_band(numbers[i]);
+    }
+}
+
+static void ask_record(void)
+{
+    ask_slot(1);
+    ask(RECORD_AGAINST_TEXT);
+}
+
+/* The record that was built, with one byte changed, with fewer bytes and with one more. */
+static void ask_changed_records(void)
+{
+    static const uint8_t changes[] = { 0x01, 0x10, 0x80, 0xFF };
+    size_t length = record_len;
+    memcpy(changed, built, sizeof changed);
+    record = changed;
+    for (size_t i = 0; i < length; i++) {
+        for (size_t j = 0; j < sizeof changes; j++) {
+            changed[i] ^= changes[j];
+            ask_record();
+            changed[i] ^= changes[j];
+        }
+    }
+    for (record_len = 0; record_len < length; record_len++)
+        ask_record();
+    changed[length] = 0;
+    record_len = length + 1;
+    ask_record();
+}
+
+static void ask_records(void)
+{
+    take_text(GOOD);
+    build();
+    ask_changed_records();
+    type_profile(OF_THREE_VALUES, 23, 100);
+    build();
+    ask_changed_records();
+}
+
+void requests(void)
+{
+    ask_benchmark();
+    fire_profiles();
+    ask_texts();
+    ask_limits();
+    ask_records();
+    for (int i = 0; i < CALLS; i++)
+        print_figures(CALL_NAMES[i], most[i]);
+    add_number(requests_made);
+    add_text(" requests\n");
+    send_line(print);
+}
