@@ -7,8 +7,9 @@
 #include <stdbool.h>
 #include <stddef.h>
 
+static const uint32_t PAINT = 0xA5A5A5A5u;
+
 enum {
-    PAINT = 0xA5A5A5A5,
     /* The words at the stack's end that no call may touch. */
     SPARE_WORDS = 64,
     CALIBRATION_TURNS = 100000,
@@ -81,11 +82,11 @@ __attribute__((naked)) static void fault(void)
 #define TIMER_RELOAD (*(volatile uint32_t *)0xE000E014u)
 #define TIMER_VALUE (*(volatile uint32_t *)0xE000E018u)
 #define TIMER_MASK 0xFFFFFFu
+#define TIMER_RAN_OUT (1u << 16)
 
 static void start_timer(void)
 {
     TIMER_RELOAD = TIMER_MASK;
-    TIMER_VALUE = 0;
     TIMER_CONTROL = 5; /* counting, by the core's clock */
 }
 
@@ -99,11 +100,16 @@ static void nothing(void)
 {
 }
 
+/* What is stored to the timer's value begins its count anew. */
 static uint32_t steps_of(void (*function)(void))
 {
+    TIMER_VALUE = 0;
     uint32_t before = TIMER_VALUE;
     function();
-    return (before - TIMER_VALUE) & TIMER_MASK;
+    uint32_t steps = (before - TIMER_VALUE) & TIMER_MASK;
+    if (TIMER_CONTROL & TIMER_RAN_OUT)
+        fail("a call takes longer than the timer can count\n");
+    return steps;
 }
 
 static uint32_t steps_for_turns, steps_for_nothing;
