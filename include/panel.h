@@ -1,5 +1,5 @@
-/* The burner panel's four calls for C firmware: profile text to record, one slot of a record,
- * record against text, least band of a text.
+/* The burner panel's five calls for C firmware: profile text to record, one slot of a record,
+ * record against text, least band of a text, the better of two offers.
  *
  * A value (setpoint, rest value, band, error) is a whole number of hundredths: 14,50 is 1450.
  *
@@ -86,13 +86,20 @@ uint64_t panel_record_against_text(const uint8_t *record, uint64_t record_len, c
  * Refuses with 1, 2, 3 and 4, by lines from the first; then 5. */
 uint64_t panel_least_band_of_text(const uint8_t *text, uint64_t text_len, uint64_t budget);
 
+/* Chooses between two records for one text. Each stands at the front of bytes of its own, perhaps with bytes behind it, and
+ * ends where its count says. A candidate is a record that is not refused, has the text's length, band and rest value, and
+ * keeps its band for the text's setpoints. Fewer terms win, then the smaller greatest error, then the first.
+ * Gives panel_winner and panel_winner_bytes: the winning record is so many bytes from `first` or from `second` on.
+ * Refuses nothing: with no candidate, or a text that is refused, the winner is PANEL_NO_OFFER. */
+uint64_t panel_better_offer(const uint8_t *text, uint64_t text_len, const uint8_t *first, uint64_t first_len, const uint8_t *second, uint64_t second_len);
+
 /* Field 0 of a result is the lowest. */
 static inline uint16_t panel_field(uint64_t result, unsigned field)
 {
     return (uint16_t)(result >> (16u * field));
 }
 
-/* Of every call: the refusal's number, PANEL_GRANTED for success. */
+/* Of every call: the refusal's number, PANEL_GRANTED for success. The better of two offers is always granted. */
 static inline enum panel_refusal panel_refusal(uint64_t result)
 {
     return (enum panel_refusal)panel_field(result, 0);
@@ -144,6 +151,22 @@ static inline uint16_t panel_lowest_slot(uint64_t result)
 static inline uint16_t panel_least_band(uint64_t result)
 {
     return panel_field(result, 1);
+}
+
+/* Of panel_better_offer: whose record wins. */
+#define PANEL_NO_OFFER 0
+#define PANEL_FIRST_OFFER 1
+#define PANEL_SECOND_OFFER 2
+
+static inline uint16_t panel_winner(uint64_t result)
+{
+    return panel_field(result, 1);
+}
+
+/* The bytes of the winning record; 0 where there is none. */
+static inline uint16_t panel_winner_bytes(uint64_t result)
+{
+    return panel_field(result, 2);
 }
 
 #ifdef __cplusplus

@@ -20,7 +20,8 @@ use Rattle.record_check.specs.Checking.{checkRefusal, kept, lowestBeyond, SlotR
 use Rattle.build.specs.declared.LeastBandAnswer.{LeastBandAnswer}
 use Rattle.build.specs.LeastBand.{LeastBandFound}
 use Rattle.panel.specs.Results.{packedFields, result, slotResult, againstTextResult, leastBandOfTextRefusal, LeastBandOfText}
-use Rattle.panel.proofs.Texts.{Held, right-profile}
+use Rattle.profile.proofs.Accepted.{Held}
+use Rattle.panel.proofs.Texts.{right-profile}
 
 -- a refusal leaves the other fields 0
 pub refused-result : (refusal first second third : ℕ) → 0 < refusal → packedFields refusal 0 0 0 ≡ result refusal first second third

@@ -27,7 +27,7 @@ use Rattle.build.specs.Building.{buildRefusal, Built, handedOver}
 use Rattle.panel.specs.Results.{packedFields, textToRecordRefusal, TextToRecord}
 use Rattle.panel.specs.Inner.{RecordBuilt}
 use Rattle.build.specs.Inner.{RightProfile}
-use Rattle.panel.proofs.Texts.{Held}
+use Rattle.profile.proofs.Accepted.{Held}
 use Rattle.panel.proofs.Packing.{refused-result}
 
 -- no more terms than nodes, and than values

@@ -1,4 +1,4 @@
--- The four calls from C: document 01, "Building, checking, least band", its last paragraph, and "What the panel turns away". For the auditor.
+-- The calls from C: document 01, "Building, checking, least band", its last paragraph, and "What the panel turns away"; document 02, F-1. For the auditor.
 -- A result packs four 16-bit fields, lowest first: the refusal's number, and three more that a refusal leaves 0.
 use mathlib.Core.Path.{_≡_}
 use mathlib.Core.Bool.{cond}
@@ -15,6 +15,9 @@ use Rattle.histogram.specs.Restored.{restoredSlot}
 use Rattle.histogram.specs.Errors.{greatestError}
 use Rattle.record.specs.Record.{recordLength, recordBytes, slotsIn, bandIn, restIn, termsIn}
 use Rattle.record_check.specs.Checking.{recordSlotRefusal, checkRefusal, kept, lowestBeyond}
+use Rattle.offers.specs.declared.Winner.{Winner}
+use Rattle.offers.specs.declared.Winner.the-variants.{Neither, First, Second}
+use Rattle.offers.specs.Offers.{winner}
 use Rattle.claims.specs.Best.{Best}
 use Rattle.claims.specs.LeastBand.{LeastBand}
 
@@ -65,3 +68,12 @@ pub record LeastBandOfText (text : List ℕ) (budget number : ℕ) : Type 0 wher
   pub band : ℕ
   pub least : leastBandOfTextRefusal text budget ≡ 0 → LeastBand (setpointsOf text) (restOf text) budget band
   pub result-is : number ≡ result (leastBandOfTextRefusal text budget) band 0 0
+
+-- the better of two offers, which refuses nothing: which buffer's record wins, 0 for none, the bytes of that record, 0
+abbrev pub winnerResult : Winner → ℕ
+winnerResult Neither = packedFields 0 0 0 0
+winnerResult (First bytes) = packedFields 0 1 bytes 0
+winnerResult (Second bytes) = packedFields 0 2 bytes 0
+
+abbrev pub betterOfferResult : List ℕ → List ℕ → List ℕ → ℕ
+betterOfferResult text first second = winnerResult (winner text first second)

@@ -2,13 +2,15 @@
 use bits::complement_of;
 use build::build_synopsis;
 use build::least_band;
+use offers::Winner;
+use offers::choose_offer;
 use profile::read_text;
 use record_check::check_record;
 use record_check::read_slot;
 use record_write::write_record;
 ghost use mathlib.Core.Path.{_≡_};
 ghost use Rattle.limits.specs.Answers.{_when_};
-ghost use Rattle.panel.specs.Results.{packedFields, slotResult, againstTextResult, TextToRecord, LeastBandOfText};
+ghost use Rattle.panel.specs.Results.{packedFields, slotResult, againstTextResult, TextToRecord, LeastBandOfText, betterOfferResult};
 ghost use Rattle.panel.specs.Inner.{Fields, RecordBuilt};
 ghost use Rattle.build.specs.Inner.{RightProfile};
 
@@ -101,6 +103,19 @@ pub extern "C" fn panel_least_band_of_text(text: &[u8], budget: u64) -> u64
     let mut scratch = [0i16; 12288];
     let answer = least_band(&setpoints[..slots], read.rest, budget as u32, &mut scratch);
     pack(0, answer.band as u64, 0, 0)
+}
+
+// The better of two offers for a text: which buffer's record wins, 0 for none, and the bytes of that record. Nothing is refused.
+#[no_mangle]
+pub extern "C" fn panel_better_offer(text: &[u8], first: &[u8], second: &[u8]) -> u64
+    ensures { λ r. ⌜ r ≡ betterOfferResult (now (text .entry)) (now (first .entry)) (now (second .entry)) ⌝ }
+{
+    let winner = choose_offer(text, first, second);
+    match winner {
+        Winner::Neither => pack(0, 0, 0, 0),
+        Winner::First(length) => pack(0, 1, length as u64, 0),
+        Winner::Second(length) => pack(0, 2, length as u64, 0),
+    }
 }
 
 // Four fields in one number, lowest first.

@@ -1,6 +1,6 @@
 -- The check's ways out: each refusal in its turn, and the verdict where none is left.
 use mathlib.Core.Path.{_≡_, refl, sym, _∙_}
-use mathlib.Core.Bool.{true, false}
+use mathlib.Core.Bool.{Bool, true, false}
 use mathlib.Core.List.{List}
 use Prim.Native.Nat.{ℕ, _≤_, _<_}
 use native.Mathlib.Omega.{arith}
@@ -17,7 +17,7 @@ use Rattle.record_read.specs.Inner.{RoomRead}
 use Rattle.record_read.proofs.Accepted as Accepted
 use Rattle.record_check.specs.declared.CheckAnswer.{CheckAnswer}
 use Rattle.record_check.specs.Checking.{checkRefusal, checkRefused, Verdict, Checked}
-use Rattle.record_check.specs.Inner.{Judgeable}
+use Rattle.record_check.specs.Inner.{roomTerms, RecordJudgeable}
 use Rattle.record_check.proofs.Slots.{sound, room-terms}
 
 module _ (profile : List ℤ) (bytes : List ℕ) where
@@ -47,7 +47,7 @@ module _ (profile : List ℤ) (bytes : List ℕ) where
           nothing = λ wrong. absurd (omega arith);
         }
 
--- what judging asks, of a record in the room
+-- what judging asks, and what its verdict says, of a record in the room
 module _ (profile : List ℤ) {bytes : List ℕ} {answer : HeaderAnswer} {nodes nodes′ : List ℕ} {values values′ : List ℤ}
     (read : RoomRead bytes answer nodes nodes′ values values′) (right : answer .refusal ≤ 0) where
   pub record-right : recordRefusal bytes ≡ 0
@@ -68,14 +68,24 @@ module _ (profile : List ℤ) {bytes : List ℕ} {answer : HeaderAnswer} {nodes 
   pub rest-within : natAbs (answer .rest) ≤ 20000
   rest-within = rw rest-is (ltb-false 20000 (natAbs (restIn bytes)) (sound bytes record-right .rest-near))
 
-  pub judgeable : outsideSlots (length profile) ≡ false → anyBeyond profile ≡ false → answer .slots ≡ length profile → Judgeable profile (bandIn bytes) (answer .rest) (take (answer .count) nodes′) (take (answer .count) values′)
+  pub judgeable : outsideSlots (length profile) ≡ false → anyBeyond profile ≡ false → answer .slots ≡ length profile → RecordJudgeable profile answer nodes′ values′
   judgeable inside near same = record {
-    same-length =
-        Accepted.nodes-counted read right
-        ∙ sym (Accepted.values-counted read right);
-    some-slot = slots-within (length profile) inside .some-slot;
-    few-slots = slots-within (length profile) inside .few-slots;
-    rest-within = rest-within;
-    terms-valid = rw (terms-are, ← same, slots-are, sound bytes record-right .terms-valid) tt;
-    none-beyond = rw near tt;
+    in-nodes = Accepted.in-nodes read right;
+    in-values = Accepted.in-values read right;
+    band-inside = rw band-is (sound bytes record-right .band-inside);
+    judgeable = record {
+      same-length =
+          Accepted.nodes-counted read right
+          ∙ sym (Accepted.values-counted read right);
+      some-slot = slots-within (length profile) inside .some-slot;
+      few-slots = slots-within (length profile) inside .few-slots;
+      rest-within = rest-within;
+      terms-valid = rw (terms-are, ← same, slots-are, sound bytes record-right .terms-valid) tt;
+      none-beyond = rw near tt;
+    };
   }
+
+  -- the verdict is the record's
+  pub judged : {is-kept : Bool} {error slot : ℕ} → Verdict profile (answer .rest) (roomTerms answer nodes′ values′) (natAbs (answer .band)) is-kept error slot
+      → Verdict profile (restIn bytes) (termsIn bytes) (bandIn bytes) is-kept error slot
+  judged verdict = rw (terms-are, rest-is, band-is) at verdict

@@ -1,14 +1,16 @@
 -- What inner functions ask and promise. A reader of the promises need not open this file.
 use mathlib.Core.Path.{_≡_}
-use mathlib.Core.Bool.{Bool, not, cond}
+use mathlib.Core.Bool.{Bool, false, not, cond}
 use mathlib.Core.List.{List}
 use Prim.Native.Nat.{ℕ, _≤_, _<_}
 use lib.Dec.{T, leb, ltb}
 use lib.IntN.{ℤ, pos, _-ℤ_, natAbs}
-use lib.ListN.{length, getD}
-use Rattle.limits.specs.Limits.{anyBeyond}
+use lib.ListN.{length, getD, take}
+use Rattle.limits.specs.Limits.{outsideBand, anyBeyond}
+use Rattle.histogram.specs.declared.Term.{Term}
 use Rattle.histogram.specs.Terms.{paired, valid}
 use Rattle.histogram.specs.Errors.{setpointOf, greatest}
+use Rattle.record_read.specs.declared.HeaderAnswer.{HeaderAnswer}
 use Rattle.record_check.specs.Checking.{every, lowest}
 
 -- the difference of a setpoint and what stands in its slot
@@ -45,3 +47,14 @@ pub record Judgeable (profile : List ℤ) (band : ℕ) (rest : ℤ) (nodes : Lis
   pub rest-within : natAbs rest ≤ 20000
   pub terms-valid : T (valid (length profile) (paired nodes values))
   pub none-beyond : T (not (anyBeyond profile))
+
+-- the terms at the front of the room, as many as a header counts
+abbrev pub roomTerms : HeaderAnswer → List ℕ → List ℤ → List Term
+roomTerms header nodes values = paired (take (header .count) nodes) (take (header .count) values)
+
+-- a profile and a record that was read into room, which can be judged
+pub record RecordJudgeable (profile : List ℤ) (header : HeaderAnswer) (nodes : List ℕ) (values : List ℤ) : Type 0 where
+  pub in-nodes : header .count ≤ length nodes
+  pub in-values : header .count ≤ length values
+  pub band-inside : outsideBand (header .band) ≡ false
+  pub judgeable : Judgeable profile (natAbs (header .band)) (header .rest) (take (header .count) nodes) (take (header .count) values)

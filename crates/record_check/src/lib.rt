@@ -5,11 +5,13 @@ use histogram::restore::restore_checked_slot;
 use histogram::terms::padded_length;
 use limits::greater;
 use limits::smaller;
+use record_read::HeaderAnswer;
 use record_read::read_into_room;
 ghost use mathlib.Core.Path.{_≡_};
+ghost use lib.IntN.{natAbs};
 ghost use Rattle.histogram.specs.Terms.{paired};
 ghost use Rattle.record_check.specs.Checking.{SlotRead, checkRefused, Checked, Verdict};
-ghost use Rattle.record_check.specs.Inner.{Comparable, Compared, InSlot, ErrorIs, Judgeable};
+ghost use Rattle.record_check.specs.Inner.{Comparable, Compared, InSlot, ErrorIs, Judgeable, roomTerms, RecordJudgeable};
 
 // The setpoint restored in one slot of a record.
 pub fn read_slot(bytes: &[u8], slot: usize) -> SlotAnswer
@@ -61,6 +63,19 @@ pub fn check_record(setpoints: &[i16], bytes: &[u8]) -> CheckAnswer
     if header.slots != setpoints.len() {
         return refused(limits::LENGTH_DIFFERS);
     }
+    judge_record(setpoints, header, &nodes, &values)
+}
+
+// The verdict on a record that was read into room, whose terms stand at the fronts of `nodes` and `values`.
+pub fn judge_record(
+    setpoints: &[i16],
+    header: HeaderAnswer,
+    nodes: &[u16],
+    values: &[i16],
+) -> CheckAnswer
+    requires { ⌜ RecordJudgeable (now setpoints) header (now nodes) (now values) ⌝ }
+    ensures { λ r. ⌜ (r .refusal ≡ 0) × Verdict (now (setpoints .entry)) (header .rest) (roomTerms header (now (nodes .entry)) (now (values .entry))) (natAbs (header .band)) (r .kept) (r .error) (r .slot) ⌝ }
+{
     let count = header.count;
     judge(
         setpoints,

@@ -4,7 +4,7 @@ use mathlib.Core.Path.{sym}
 use native.Mathlib.Omega.{arith}
 use lib.Seq.{length-take-le}
 use mir.Facts.{toZ-ofZ}
-use Rattle.panel.proofs.Texts.{held, rest-fits}
+use Rattle.profile.proofs.Accepted.{held, rest-fits}
 use Rattle.panel.proofs.Packing.{least-refused, budget-refused, least-packed}
 use Rattle.panel.proofs.panel_least_band_of_text.Statement.{statement}
 use Rattle.panel.proofs.panel_least_band_of_text.Tie as tie

@@ -3,7 +3,7 @@ use borrow.Author.Needs.{needs}
 use mathlib.Core.Path.{sym, _∙_}
 use native.Mathlib.Omega.{arith}
 use lib.Seq.{length-take-le}
-use Rattle.panel.proofs.Texts.{held}
+use Rattle.profile.proofs.Accepted.{held}
 use Rattle.panel.proofs.Packing.{one-at-most, against-refused, against-packed}
 use Rattle.panel.proofs.panel_record_against_text.Statement.{statement}
 use Rattle.panel.proofs.panel_record_against_text.Tie as tie

@@ -4,7 +4,8 @@ use mathlib.Core.Path.{sym}
 use native.Mathlib.Omega.{arith}
 use lib.Seq.{length-take-le}
 use mir.Facts.{toZ-ofZ}
-use Rattle.panel.proofs.Texts.{held, rest-fits, band-fits, room-right}
+use Rattle.profile.proofs.Accepted.{held, rest-fits, band-fits}
+use Rattle.panel.proofs.Texts.{room-right}
 use Rattle.panel.proofs.Records.{text-refused, text-built}
 use Rattle.panel.proofs.panel_text_to_record.Statement.{statement}
 use Rattle.panel.proofs.panel_text_to_record.Tie as tie

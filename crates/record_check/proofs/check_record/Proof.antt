@@ -1,23 +1,9 @@
 -- `record_check::check_record` meets its contract: each way out is a case of `Checks`.
 use mathlib.Core.Path.{sym, _∙_}
-use native.Mathlib.Omega.{arith}
-use mir.Syntax.{w32}
-use mir.Val.{SFits, Fits}
-use mir.Facts.{toZ-ofZ}
-use Rattle.limits.proofs.Signed.{narrower, narrower-fits}
-use Rattle.record.specs.Record.{bandIn}
-use Rattle.record.proofs.Bounds.{band-bound}
-use Rattle.record_read.proofs.Accepted as Accepted
 use Rattle.record_check.proofs.Checks as Checks
 use borrow.Author.Needs.{needs}
 use Rattle.record_check.proofs.check_record.Statement.{statement}
 use Rattle.record_check.proofs.check_record.Tie as tie
-
-band-fits : (c : tie.After-read-into-room) → SFits w32 (c .read-into-room .result .band)
-band-fits c = search needs
-
-rest-fits : (c : tie.After-read-into-room) → SFits w32 (c .read-into-room .result .rest)
-rest-fits c = search needs
 
 is-outside-slots-requires : tie.Need-is-outside-slots-requires
 is-outside-slots-requires c κs = search needs
@@ -78,58 +64,26 @@ returns-4 c =
     (Checks.other-length (a .setpoints .now) (a .bytes .now) (sym (c .before .before .before .before .before .before .before .before .before .before .before .before .before .is-outside-slots .ensures) ∙ c .before .before .before .before .before .before .before .before .before .before .before .before .if1 .left) right (sym (c .before .before .before .before .is-any-beyond .ensures) ∙ c .before .before .before .if3 .left)
     (λ same. c .before .if4 .taken (slots ∙ same)))
 
-cast-judge : tie.Need-cast-judge
-cast-judge c =
-    let a = c .before .before .before .before .before .before .before .before .before .before .before .before .before .before .before .before .args in
-    let room = c .before .before .before .before .before .before .before .before .before .before in
-    let band = Checks.band-is (a .setpoints .now) (room .read-into-room .ensures) (c .before .before .before .before .before .before .if2 .left) in
-    let fits : Fits w32 (bandIn (a .bytes .now)) = omega (arith, band-bound (a .bytes .now)) in
-    rw (toZ-ofZ (band-fits room), band) (tt, fits)
+slice-aggregate-judge-record : tie.Need-slice-aggregate-judge-record
+slice-aggregate-judge-record c = search needs
 
-cast-judge-2 : tie.Need-cast-judge-2
-cast-judge-2 c =
-    let a = c .before .before .before .before .before .before .before .before .before .before .before .before .before .before .before .before .before .before .args in
-    let room = c .before .before .before .before .before .before .before .before .before .before .before .before in
-    narrower-fits (rest-fits room) (Checks.rest-within (a .setpoints .now) (room .read-into-room .ensures) (c .before .before .before .before .before .before .before .before .if2 .left))
+slice-aggregate-judge-record-2 : tie.Need-slice-aggregate-judge-record-2
+slice-aggregate-judge-record-2 c = search needs
 
-array-share-prefix-nodes : tie.Need-array-share-prefix-nodes
-array-share-prefix-nodes c = Accepted.in-nodes (c .before .before .before .before .before .before .before .before .before .before .before .before .read-into-room .ensures) (c .before .before .before .before .before .before .before .before .if2 .left)
-
-slice-aggregate-judge : tie.Need-slice-aggregate-judge
-slice-aggregate-judge c = sym (Accepted.nodes-counted (c .before .before .before .before .before .before .before .before .before .before .before .before .before .read-into-room .ensures) (c .before .before .before .before .before .before .before .before .before .if2 .left))
-
-array-share-prefix-values : tie.Need-array-share-prefix-values
-array-share-prefix-values c = Accepted.in-values (c .before .before .before .before .before .before .before .before .before .before .before .before .before .read-into-room .ensures) (c .before .before .before .before .before .before .before .before .before .if2 .left)
-
-slice-aggregate-judge-2 : tie.Need-slice-aggregate-judge-2
-slice-aggregate-judge-2 c = sym (Accepted.values-counted (c .before .before .before .before .before .before .before .before .before .before .before .before .before .before .read-into-room .ensures) (c .before .before .before .before .before .before .before .before .before .before .if2 .left))
-
-judge-requires : tie.Need-judge-requires
-judge-requires c κs =
-    let a = c .before .before .before .before .before .before .before .before .before .before .before .before .before .before .before .before .before .before .before .before .args in
-    let room = c .before .before .before .before .before .before .before .before .before .before .before .before .before .before in
-    let read = room .read-into-room .ensures in
-    let right = c .before .before .before .before .before .before .before .before .before .before .if2 .left in
-    let near = Checks.rest-within (a .setpoints .now) read right in
-    let band = Checks.band-is (a .setpoints .now) read right in
-    rw (narrower (rest-fits room) near, toZ-ofZ (band-fits room), band)
-    (Checks.judgeable (a .setpoints .now) read right (sym (c .before .before .before .before .before .before .before .before .before .before .before .before .before .before .before .before .before .before .is-outside-slots .ensures) ∙ c .before .before .before .before .before .before .before .before .before .before .before .before .before .before .before .before .before .if1 .left)
-    (sym (c .before .before .before .before .before .before .before .before .before .is-any-beyond .ensures) ∙ c .before .before .before .before .before .before .before .before .if3 .left) (c .before .before .before .before .before .before .if4 .left))
+judge-record-requires : tie.Need-judge-record-requires
+judge-record-requires c κs =
+    let setpoints = c .before .before .before .before .before .before .before .before .before .before .before .before .before .before .before .before .args .setpoints .now in
+    Checks.judgeable setpoints (c .before .before .before .before .before .before .before .before .before .before .read-into-room .ensures) (c .before .before .before .before .before .before .if2 .left) (sym (c .before .before .before .before .before .before .before .before .before .before .before .before .before .before .is-outside-slots .ensures) ∙ c .before .before .before .before .before .before .before .before .before .before .before .before .before .if1 .left)
+    (sym (c .before .before .before .before .before .is-any-beyond .ensures) ∙ c .before .before .before .before .if3 .left) (c .before .before .if4 .left)
 
 returns-5 : tie.Need-returns-5
 returns-5 c =
-    let a = c .before .before .before .before .before .before .before .before .before .before .before .before .before .before .before .before .before .before .before .before .before .args in
-    let room = c .before .before .before .before .before .before .before .before .before .before .before .before .before .before .before in
-    let read = room .read-into-room .ensures in
-    let right = c .before .before .before .before .before .before .before .before .before .before .before .if2 .left in
-    let near = Checks.rest-within (a .setpoints .now) read right in
-    let band = Checks.band-is (a .setpoints .now) read right in
-    let rest = Checks.rest-is (a .setpoints .now) read right in
-    let terms = Checks.terms-are (a .setpoints .now) read right in
-    let slots = Checks.slots-are (a .setpoints .now) read right in
-    let verdict = rw (narrower (rest-fits room) near, toZ-ofZ (band-fits room), band, rest, terms) at (c .judge .ensures .1) in
-    Checks.verdict-given (a .setpoints .now) (a .bytes .now) (sym (c .before .before .before .before .before .before .before .before .before .before .before .before .before .before .before .before .before .before .before .is-outside-slots .ensures) ∙ c .before .before .before .before .before .before .before .before .before .before .before .before .before .before .before .before .before .before .if1 .left)
-    (Checks.record-right (a .setpoints .now) read right) (sym (c .before .before .before .before .before .before .before .before .before .before .is-any-beyond .ensures) ∙ c .before .before .before .before .before .before .before .before .before .if3 .left) (sym slots ∙ c .before .before .before .before .before .before .before .if4 .left) (c .judge .result) (c .judge .ensures .0) verdict
+    let a = c .before .before .before .before .before .before .before .before .before .before .before .before .before .before .before .before .before .args in
+    let read = c .before .before .before .before .before .before .before .before .before .before .before .read-into-room .ensures in
+    let right = c .before .before .before .before .before .before .before .if2 .left in
+    Checks.verdict-given (a .setpoints .now) (a .bytes .now) (sym (c .before .before .before .before .before .before .before .before .before .before .before .before .before .before .before .is-outside-slots .ensures) ∙ c .before .before .before .before .before .before .before .before .before .before .before .before .before .before .if1 .left)
+    (Checks.record-right (a .setpoints .now) read right) (sym (c .before .before .before .before .before .before .is-any-beyond .ensures) ∙ c .before .before .before .before .before .if3 .left) (sym (Checks.slots-are (a .setpoints .now) read right) ∙ c .before .before .before .if4 .left) (c .judge-record .result) (c .judge-record .ensures .0)
+    (Checks.judged (a .setpoints .now) read right (c .judge-record .ensures .1))
 
 pub check-record-spec : {M : Type 1} → statement M
 check-record-spec =
@@ -148,11 +102,7 @@ check-record-spec =
     returns-3
     refused-requires-4
     returns-4
-    cast-judge
-    cast-judge-2
-    array-share-prefix-nodes
-    slice-aggregate-judge
-    array-share-prefix-values
-    slice-aggregate-judge-2
-    judge-requires
+    slice-aggregate-judge-record
+    slice-aggregate-judge-record-2
+    judge-record-requires
     returns-5)

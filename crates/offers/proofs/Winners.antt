@@ -1,0 +1,165 @@
+-- What a buffer offers, and what the winner is, in the words of `specs/Plainly.antt`.
+use mathlib.Core.Path.{_≡_, refl, sym, ap, subst, _∙_}
+use mathlib.Core.Bool.{Bool, true, false, _&&_, _||_}
+use mathlib.Core.List.{List}
+use Prim.Native.Nat.{ℕ, zero, suc, _≤_}
+use native.Mathlib.Omega.{arith}
+use lib.Dec.{leb, ltb, eqb}
+use lib.IntN.{pos}
+use lib.ListN.{length, take}
+use lib.Seq.{length-take-le}
+use borrow.Author.Tests.{ltb-true, ltb-false, lt-ltb, le-ltb, leb-true, le-leb, eqb-true, eqb-false, eq-eqb}
+use Rattle.limits.specs.Answers.{granted}
+use Rattle.limits.proofs.Tests.{both-hold}
+use Rattle.profile.specs.Text.{textRefusal, restOf, bandOf, setpointsOf}
+use Rattle.record.specs.Record.{slotsIn, bandIn, restIn, countIn, termsIn}
+use Rattle.record.specs.Answers.{recordRefusal}
+use Rattle.record.proofs.Bounds.{few-terms}
+use Rattle.record_check.proofs.Verdicts.{kept-keeps, keeps-kept}
+use Rattle.offers.specs.declared.Candidate.{Candidate}
+use Rattle.offers.specs.declared.Offer.{Offer}
+use Rattle.offers.specs.declared.Offer.the-variants.{Nothing, Record}
+use Rattle.offers.specs.declared.Winner.{Winner}
+use Rattle.offers.specs.declared.Winner.the-variants.{Neither, First, Second}
+use Rattle.offers.specs.Offers.{recordEnd, hasRecord, recordOf, isFor, isCandidate, offerOf, isBetter, better, winner}
+use Rattle.offers.specs.Plainly.{HasCandidate, errorOf, Beats, fewer-terms, smaller-error, NoCandidate}
+use Rattle.offers.proofs.Numbers.{is-same, same-is}
+
+-- a buffer has a candidate exactly where it passes this test
+abbrev passes : List ℕ → List ℕ → Bool
+passes text buffer = hasRecord buffer && isCandidate (setpointsOf text) (restOf text) (bandOf text) (recordOf buffer)
+
+module _ (text buffer : List ℕ) where
+  abbrev bytes : List ℕ
+  bytes = recordOf buffer
+
+  has-candidate : textRefusal text ≡ 0 → passes text buffer ≡ true → HasCandidate text buffer
+  has-candidate right all =
+      let both = both-hold (hasRecord buffer) _ all in
+      let ends = both-hold (leb 7 (length buffer)) _ (both .0) in
+      let judged = both-hold (eqb (recordRefusal bytes) 0 && isFor (setpointsOf text) (restOf text) (bandOf text) bytes) _ (both .1) in
+      let fields = both-hold (eqb (recordRefusal bytes) 0) _ (judged .0) in
+      let rests = both-hold (eqb (slotsIn bytes) (length (setpointsOf text)) && _) _ (fields .1) in
+      let bands = both-hold (eqb (slotsIn bytes) (length (setpointsOf text))) _ (rests .0) in
+      record {
+        text-right = right;
+        counted = leb-true 7 (length buffer) (ends .0);
+        ended = leb-true (recordEnd buffer) (length buffer) (ends .1);
+        reads = eqb-true (recordRefusal bytes) 0 (fields .0);
+        same-length = eqb-true (slotsIn bytes) (length (setpointsOf text)) (bands .0);
+        same-band = same-is (pos (bandIn bytes)) (bandOf text) (bands .1);
+        same-rest = same-is (restIn bytes) (restOf text) (rests .1);
+        is-kept = kept-keeps (setpointsOf text) (restIn bytes) (termsIn bytes) (bandIn bytes) (judged .1);
+      }
+
+  candidate-passes : HasCandidate text buffer → passes text buffer ≡ true
+  candidate-passes it =
+      rw (
+        le-leb 7 (length buffer) (it .counted),
+        le-leb (recordEnd buffer) (length buffer) (it .ended),
+        eq-eqb (recordRefusal bytes) 0 (it .reads),
+        eq-eqb (slotsIn bytes) (length (setpointsOf text)) (it .same-length),
+        is-same (pos (bandIn bytes)) (bandOf text) (it .same-band),
+        is-same (restIn bytes) (restOf text) (it .same-rest),
+        keeps-kept (setpointsOf text) (restIn bytes) (termsIn bytes) (bandIn bytes) (it .is-kept),
+      )
+
+  -- what the buffer offers
+  abbrev offer : Offer
+  offer = offerOf (setpointsOf text) (restOf text) (bandOf text) buffer
+
+  -- where it has a candidate
+  abbrev offered : Candidate
+  offered = record { length = recordEnd buffer; terms = countIn bytes; error = errorOf text buffer }
+
+  data Offered : Type 0 where
+    none : offer ≡ Nothing → (HasCandidate text buffer → ⊥) → Offered
+    some : offer ≡ Record offered → HasCandidate text buffer → Offered
+
+  offers : textRefusal text ≡ 0 → Offered
+  offers right = by-tests (hasRecord buffer) (isCandidate (setpointsOf text) (restOf text) (bandOf text) bytes) refl refl
+    where
+      by-tests : (there candidate : Bool) → hasRecord buffer ≡ there → isCandidate (setpointsOf text) (restOf text) (bandOf text) bytes ≡ candidate → Offered
+      by-tests false candidate is judged = none (rw is) (λ it. absurd (mathlib.Core.Bool.false≢true (sym (rw is) ∙ candidate-passes it)))
+      by-tests true false is judged = none (rw (is, judged)) (λ it. absurd (mathlib.Core.Bool.false≢true (sym (rw (is, judged)) ∙ candidate-passes it)))
+      by-tests true true is judged =
+          let it = has-candidate right (rw (is, judged)) in
+          some (rw (is, judged, length-take-le (recordEnd buffer) buffer (it .ended))) it
+
+-- ---- which of two candidates is better
+
+module _ (text one other : List ℕ) where
+  is-beaten : isBetter (offered text one) (offered text other) ≡ true → Beats text one other
+  is-beaten test = by-terms (ltb (countIn (recordOf one)) (countIn (recordOf other))) refl test
+    where
+      by-terms : (fewer : Bool) → ltb (countIn (recordOf one)) (countIn (recordOf other)) ≡ fewer
+          → (fewer || (eqb (countIn (recordOf one)) (countIn (recordOf other)) && ltb (errorOf text one) (errorOf text other))) ≡ true → Beats text one other
+      by-terms true fewer test = fewer-terms (ltb-true (countIn (recordOf one)) (countIn (recordOf other)) fewer)
+      by-terms false fewer test =
+          let both = both-hold (eqb (countIn (recordOf one)) (countIn (recordOf other))) _ test in
+          smaller-error (eqb-true (countIn (recordOf one)) (countIn (recordOf other)) (both .0)) (ltb-true (errorOf text one) (errorOf text other) (both .1))
+
+  beaten-is : Beats text one other → isBetter (offered text one) (offered text other) ≡ true
+  beaten-is (fewer-terms fewer) = rw (lt-ltb (countIn (recordOf one)) (countIn (recordOf other)) fewer)
+  beaten-is (smaller-error same smaller) =
+      rw (
+        le-ltb (countIn (recordOf one)) (countIn (recordOf other)) (omega arith),
+        eq-eqb (countIn (recordOf one)) (countIn (recordOf other)) same,
+        lt-ltb (errorOf text one) (errorOf text other) smaller,
+      )
+
+-- ---- the winner
+
+module _ (text first second : List ℕ) where
+  pub data Won : Type 0 where
+    neither-won : winner text first second ≡ Neither → NoCandidate text first second → Won
+    first-won : winner text first second ≡ First (recordEnd first) → HasCandidate text first → (HasCandidate text second → Beats text second first → ⊥) → Won
+    second-won : winner text first second ≡ Second (recordEnd second) → HasCandidate text second → (HasCandidate text first → Beats text second first) → Won
+
+  pub won : Won
+  won = by-text (textRefusal text) refl
+    where
+      by-offers : textRefusal text ≡ 0 → Offered text first → Offered text second → Won
+      by-offers right (none no-first is-first) (none no-second is-second) =
+          neither-won (rw (right, no-first, no-second)) (record { first-none = is-first; second-none = is-second })
+      by-offers right (none no-first is-first) (some a-second is-second) = second-won (rw (right, no-first, a-second)) is-second (λ it. absurd (is-first it))
+      by-offers right (some a-first is-first) (none no-second is-second) = first-won (rw (right, a-first, no-second)) is-first (λ it beats. is-second it)
+      by-offers right (some a-first is-first) (some a-second is-second) = by-test (isBetter (offered text second) (offered text first)) refl
+        where
+          by-test : (wins : Bool) → isBetter (offered text second) (offered text first) ≡ wins → Won
+          by-test true wins = second-won (rw (right, a-first, a-second, wins)) is-second (λ _. is-beaten text second first wins)
+          by-test false wins =
+              first-won (rw (right, a-first, a-second, wins)) is-first (λ _ beats. absurd (mathlib.Core.Bool.false≢true (sym wins ∙ beaten-is text second first beats)))
+
+      by-text : (refusal : ℕ) → textRefusal text ≡ refusal → Won
+      by-text zero right = by-offers right (offers text first right) (offers text second right)
+      by-text (suc refusal) wrong =
+          let refused : (buffer : List ℕ) → HasCandidate text buffer → ⊥ = λ buffer it. absurd (omega (arith, wrong, it .text-right)) in
+          neither-won (rw wrong) (record { first-none = refused first; second-none = refused second })
+
+  -- the winner's bytes lie in its buffer, and are no more than the longest record's
+  pub record Within (count : ℕ) (buffer : List ℕ) : Type 0 where
+    pub inside : count ≤ length buffer
+    pub few : count ≤ 3332
+
+  abbrev WinnerWithin : Winner → Type 0
+  WinnerWithin Neither = Unit
+  WinnerWithin (First count) = Within count first
+  WinnerWithin (Second count) = Within count second
+
+  winner-within : WinnerWithin (winner text first second)
+  winner-within = by-winner won
+    where
+      of-candidate : {buffer : List ℕ} → HasCandidate text buffer → Within (recordEnd buffer) buffer
+      of-candidate {buffer} candidate = record { inside = candidate .ended; few = omega (arith, few-terms buffer) }
+
+      by-winner : Won → WinnerWithin (winner text first second)
+      by-winner (neither-won is no-candidate) = subst WinnerWithin (sym is) tt
+      by-winner (first-won is candidate not-beaten) = subst WinnerWithin (sym is) (of-candidate candidate)
+      by-winner (second-won is candidate beats) = subst WinnerWithin (sym is) (of-candidate candidate)
+
+  pub first-within : {count : ℕ} → winner text first second ≡ First count → Within count first
+  first-within is = subst WinnerWithin is winner-within
+
+  pub second-within : {count : ℕ} → winner text first second ≡ Second count → Within count second
+  second-within is = subst WinnerWithin is winner-within

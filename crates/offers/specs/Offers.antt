@@ -1,0 +1,101 @@
+-- The better of two offers: document 02, F-1. For the auditor.
+-- `proofs/Plainly.antt` shows that the part handed back is what F-1 says in words, `HandedBack` of specs/Plainly.antt: `handed-back`.
+use mathlib.Core.Bool.{Bool, false, cond, _&&_, _||_}
+use mathlib.Core.List.{List}
+use Prim.Native.Nat.{ℕ}
+use lib.Dec.{leb, ltb, eqb}
+use lib.IntN.{ℤ, pos, negsuc}
+use lib.ListN.{length, take}
+use denote.Ref.{RefT, ptr, now}
+use Rattle.limits.specs.Answers.{granted}
+use Rattle.profile.specs.Text.{textRefusal, restOf, bandOf, setpointsOf}
+use Rattle.histogram.specs.Errors.{greatestError}
+use Rattle.record.specs.Record.{recordLength, slotsIn, bandIn, restIn, countIn, termsIn}
+use Rattle.record.specs.Answers.{recordRefusal}
+use Rattle.record_check.specs.Checking.{kept}
+use Rattle.offers.specs.declared.Candidate.{Candidate}
+use Rattle.offers.specs.declared.Offer.{Offer}
+use Rattle.offers.specs.declared.Offer.the-variants.{Nothing, Record}
+use Rattle.offers.specs.declared.Winner.{Winner}
+use Rattle.offers.specs.declared.Winner.the-variants.{Neither, First, Second}
+
+-- "its count says where it ends": the bytes of the record at the front of a buffer
+abbrev pub recordEnd : List ℕ → ℕ
+recordEnd buffer = recordLength (countIn buffer)
+
+-- whether that record is there: a buffer of 7 bytes or more has a count, and the record ends where the buffer does or before
+abbrev pub hasRecord : List ℕ → Bool
+hasRecord buffer = leb 7 (length buffer) && leb (recordEnd buffer) (length buffer)
+
+-- the record at the front of a buffer, without the "bytes behind it"
+abbrev pub recordOf : List ℕ → List ℕ
+recordOf buffer = take (recordEnd buffer) buffer
+
+-- whether two numbers are the same
+abbrev pub sameNumber : ℤ → ℤ → Bool
+sameNumber (pos m) (pos n) = eqb m n
+sameNumber (pos m) (negsuc n) = false
+sameNumber (negsuc m) (pos n) = false
+sameNumber (negsuc m) (negsuc n) = eqb m n
+
+-- whether a record "has the text's length, band and rest value"
+abbrev pub isFor : List ℤ → ℤ → ℤ → List ℕ → Bool
+isFor profile rest band bytes = eqb (slotsIn bytes) (length profile) && sameNumber (pos (bandIn bytes)) band && sameNumber (restIn bytes) rest
+
+-- "A candidate reads without refusal, has the text's length, band and rest value, and is 'kept'"
+abbrev pub isCandidate : List ℤ → ℤ → ℤ → List ℕ → Bool
+isCandidate profile rest band bytes =
+    eqb (recordRefusal bytes) 0 && isFor profile rest band bytes && kept profile (restIn bytes) (termsIn bytes) (bandIn bytes)
+
+-- what a record offers for a profile: its bytes, its terms and its greatest error where it is a candidate
+abbrev pub candidateOffer : List ℤ → ℤ → ℤ → List ℕ → Offer
+candidateOffer profile rest band bytes =
+    cond (isCandidate profile rest band bytes)
+    (Record (record { length = length bytes; terms = countIn bytes; error = greatestError profile (restIn bytes) (termsIn bytes) }))
+    Nothing
+
+-- what a buffer offers: what the record at its front does
+abbrev pub offerOf : List ℤ → ℤ → ℤ → List ℕ → Offer
+offerOf profile rest band buffer = cond (hasRecord buffer) (candidateOffer profile rest band (recordOf buffer)) Nothing
+
+-- "Fewer terms wins, then the smaller greatest error"
+abbrev pub isBetter : Candidate → Candidate → Bool
+isBetter candidate other = ltb (candidate .terms) (other .terms) || (eqb (candidate .terms) (other .terms) && ltb (candidate .error) (other .error))
+
+-- "then the first buffer"
+abbrev pub better : Offer → Offer → Winner
+better Nothing Nothing = Neither
+better Nothing (Record second) = Second (second .length)
+better (Record first) Nothing = First (first .length)
+better (Record first) (Record second) = cond (isBetter second first) (Second (second .length)) (First (first .length))
+
+-- the winner of two buffers for a profile
+abbrev pub winnerFor : List ℤ → ℤ → ℤ → List ℕ → List ℕ → Winner
+winnerFor profile rest band first second = better (offerOf profile rest band first) (offerOf profile rest band second)
+
+-- and for a text; none for "a refused text"
+abbrev pub winner : List ℕ → List ℕ → List ℕ → Winner
+winner text first second = granted (textRefusal text) (winnerFor (setpointsOf text) (restOf text) (bandOf text) first second) Neither
+
+-- a part of lent memory: where it begins, and its bytes
+pub record Part : Type 0 where
+  pub place : ℕ × ℕ
+  pub bytes : List ℕ
+
+-- the part that a reference lends
+abbrev pub partOf : RefT (List ℕ) → Part
+partOf reference = record { place = ptr reference; bytes = now reference }
+
+-- so many bytes at the start of a part
+abbrev pub front : ℕ → Part → Part
+front count part = record { place = part .place; bytes = take count (part .bytes) }
+
+-- "the winning record's bytes, as part of the buffer they came in"; with no winner "the part is empty, at the start of the first buffer"
+abbrev pub winningPart : Winner → Part → Part → Part
+winningPart Neither first second = front 0 first
+winningPart (First count) first second = front count first
+winningPart (Second count) first second = front count second
+
+-- the part that is handed back
+abbrev pub betterOffer : List ℕ → Part → Part → Part
+betterOffer text first second = winningPart (winner text (first .bytes) (second .bytes)) first second
