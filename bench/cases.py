@@ -1,6 +1,7 @@
 """The benchmark's requests: what each call is asked, for bench/run on this machine and for firmware/test on the panel's core.
 
 Reading a text is counted by a call that has nothing else to do: the least band for a budget of 1,024, refused with 5 once the text is read.
+The better of two offers comes with the reading of its text and the checks of its two records.
 """
 import pathlib
 import random
@@ -8,8 +9,8 @@ from collections import namedtuple
 
 EXAMPLES = pathlib.Path(__file__).resolve().parent.parent / "examples"
 
-# The record of a case is bytes, or the name of the case that builds it.
-Case = namedtuple("Case", "name call number text record refusal", defaults=(0, b"", b"", 0))
+# A record of a case is bytes, or the name of the case that builds it; two offers are a record and a second one.
+Case = namedtuple("Case", "name call number text record refusal second", defaults=(0, b"", b"", 0, b""))
 
 
 def typed(value):
@@ -67,8 +68,26 @@ def readings():
         "the longest lines": [b"-199,99"] * 512,
         "the shortest lines": [b"0"] * 512,
     }
-    return [Case(f"read {name}", "least_band_of_text", 1024, b"\n".join([b"14,00", b"0,25", *setpoints, b""]), refusal=5)
-            for name, setpoints in lines.items()]
+    return [reading(name, b"\n".join([b"14,00", b"0,25", *setpoints, b""])) for name, setpoints in lines.items()]
+
+
+def reading(name, text):
+    return Case(f"read {name}", "least_band_of_text", 1024, text, refusal=5)
+
+
+def offers(setpoints):
+    """Two offers for one text, and what is read and checked for them: the longest records, and short ones."""
+    rng = random.Random(1)
+    longest = [packed(512, 40000, 0, [(node, rng.randrange(-20000, 20001)) for node in range(1, 1024)]) for _ in range(2)]
+    wide = profile(40000, setpoints, rest=0)
+    noisy = (EXAMPLES / "noisy.txt").read_bytes()
+    short = (EXAMPLES / "coal-change.txt").read_bytes()
+    for name, text, record, second in [("1,023 terms", wide, *longest), ("noisy.txt", noisy, "build noisy.txt", "build noisy.txt"),
+                                       ("coal-change.txt", short, "build coal-change.txt", "build coal-change.txt")]:
+        yield Case(f"two offers, {name}", "better_offer", text=text, record=record, second=second)
+        yield reading(f"for two offers, {name}", text)
+        yield Case(f"check the first offer, {name}", "record_against_text", text=text, record=record)
+        yield Case(f"check the second offer, {name}", "record_against_text", text=text, record=second)
 
 
 def other_calls():
@@ -88,4 +107,4 @@ def other_calls():
     for budget in [0, 16, 255]:
         for shape in ["512 random", "512 on a ramp"]:
             cases.append(Case(f"least band of {shape}, budget {budget}", "least_band_of_text", budget, profile(0, setpoints[shape])))
-    return readings() + cases
+    return readings() + cases + list(offers(setpoints["512 random"]))

@@ -3,7 +3,8 @@
  *     harness stack < CASES     measures the stack that each call takes
  *     harness count < CASES     under callgrind: a dump of the instructions for each call, in the order of its output
  *
- * A case is a line `CALL NUMBER TEXT-BYTES RECORD-BYTES` and then the bytes of its text and of its record.
+ * A case is a line `CALL NUMBER TEXT-BYTES RECORD-BYTES SECOND-BYTES` and then the bytes of its text, of its record and of a
+ * second one.
  * For each case a line for the library and one for the plain version: the four fields of the result, the
  * bytes of stack, and the record in hexadecimal where the call writes one. Fails where a record that one of
  * the two built is not kept in the other's eyes, or bytes behind it were touched.
@@ -31,20 +32,21 @@ struct calls {
     uint64_t (*record_slot)(const uint8_t *, size_t, uint64_t);
     uint64_t (*record_against_text)(const uint8_t *, size_t, const uint8_t *, size_t);
     uint64_t (*least_band_of_text)(const uint8_t *, size_t, uint64_t);
+    uint64_t (*better_offer)(const uint8_t *, size_t, const uint8_t *, size_t, const uint8_t *, size_t);
 };
 
 static const struct calls LIBRARY = {
-    "library", panel_text_to_record, panel_record_slot, panel_record_against_text, panel_least_band_of_text
+    "library", panel_text_to_record, panel_record_slot, panel_record_against_text, panel_least_band_of_text, panel_better_offer
 };
 
 static const struct calls PLAIN = {
-    "plain", plain_text_to_record, plain_record_slot, plain_record_against_text, plain_least_band_of_text
+    "plain", plain_text_to_record, plain_record_slot, plain_record_against_text, plain_least_band_of_text, plain_better_offer
 };
 
-enum call { TEXT_TO_RECORD, RECORD_SLOT, RECORD_AGAINST_TEXT, LEAST_BAND_OF_TEXT, CALLS };
+enum call { TEXT_TO_RECORD, RECORD_SLOT, RECORD_AGAINST_TEXT, LEAST_BAND_OF_TEXT, BETTER_OFFER, CALLS };
 
 static const char *const CALL_NAMES[CALLS] = {
-    "text_to_record", "record_slot", "record_against_text", "least_band_of_text"
+    "text_to_record", "record_slot", "record_against_text", "least_band_of_text", "better_offer"
 };
 
 struct test_case {
@@ -52,8 +54,10 @@ struct test_case {
     unsigned long long number;
     size_t text_len;
     size_t record_len;
+    size_t second_len;
     uint8_t text[2 * PANEL_MOST_TEXT_BYTES];
     uint8_t record[PANEL_MOST_RECORD_BYTES];
+    uint8_t second[PANEL_MOST_RECORD_BYTES];
 };
 
 static struct test_case now;
@@ -82,8 +86,11 @@ static void call(void)
     case RECORD_AGAINST_TEXT:
         result = callee->record_against_text(now.record, now.record_len, now.text, now.text_len);
         break;
-    default:
+    case LEAST_BAND_OF_TEXT:
         result = callee->least_band_of_text(now.text, now.text_len, now.number);
+        break;
+    default:
+        result = callee->better_offer(now.text, now.text_len, now.record, now.record_len, now.second, now.second_len);
     }
 }
 
@@ -169,15 +176,17 @@ static bool read_case(void)
     char line[120], name[32];
     if (fgets(line, sizeof line, stdin) == NULL)
         return false;
-    if (sscanf(line, "%31s %llu %zu %zu", name, &now.number, &now.text_len, &now.record_len) != 4)
-        fail("a case has four words");
+    if (sscanf(line, "%31s %llu %zu %zu %zu", name, &now.number, &now.text_len, &now.record_len, &now.second_len) != 5)
+        fail("a case has five words");
     now.call = call_named(name);
-    if (now.text_len > sizeof now.text || now.record_len > sizeof now.record)
+    if (now.text_len > sizeof now.text || now.record_len > sizeof now.record || now.second_len > sizeof now.second)
         fail("a case is too long");
     if (fread(now.text, 1, now.text_len, stdin) != now.text_len)
         fail("a case lacks its text");
     if (fread(now.record, 1, now.record_len, stdin) != now.record_len)
         fail("a case lacks its record");
+    if (fread(now.second, 1, now.second_len, stdin) != now.second_len)
+        fail("a case lacks its second record");
     return true;
 }
 

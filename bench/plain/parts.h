@@ -56,6 +56,10 @@ int read_profile(const uint8_t *text, size_t length, struct profile *profile);
 int read_record(const uint8_t *record, size_t length, struct synopsis *synopsis);
 
 size_t record_bytes(int terms);
+
+/* The bytes of the record at the front of a buffer, as its count says; 0 where the buffer ends before. */
+size_t front_bytes(const uint8_t *buffer, size_t length);
+
 void write_record(const struct synopsis *synopsis, uint8_t *record);
 
 /* Builds a best synopsis; the answer is its greatest error. */

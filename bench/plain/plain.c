@@ -1,4 +1,4 @@
-/* The panel's four calls in plain C: the yardstick for speed, and a second opinion on every result. */
+/* The panel's calls in plain C: the yardstick for speed, and a second opinion on every result. */
 #include "plain.h"
 
 #include "parts.h"
@@ -103,4 +103,39 @@ uint64_t plain_least_band_of_text(const uint8_t *text, size_t text_len, uint64_t
     if (budget > MOST_BUDGET)
         return refused(5);
     return granted((unsigned)least_band(&profile, (int)budget), 0, 0);
+}
+
+/* What a buffer offers: the bytes of its record, 0 where that is no candidate. */
+struct offer {
+    size_t bytes;
+    int count;
+    unsigned error;
+};
+
+static struct offer read_offer(const struct profile *profile, const uint8_t *buffer, size_t length)
+{
+    struct offer none = { 0, 0, 0 };
+    struct synopsis synopsis;
+    size_t bytes = front_bytes(buffer, length);
+    if (bytes == 0 || read_record(buffer, bytes, &synopsis) != 0)
+        return none;
+    if (synopsis.slots != profile->slots || synopsis.band != profile->band || synopsis.rest != profile->rest)
+        return none;
+    uint64_t checked = check(profile, &synopsis);
+    if ((checked >> 16 & 1) == 0)
+        return none;
+    return (struct offer){ bytes, synopsis.count, (unsigned)(checked >> 32 & 0xFFFF) };
+}
+
+uint64_t plain_better_offer(const uint8_t *text, size_t text_len, const uint8_t *first, size_t first_len, const uint8_t *second, size_t second_len)
+{
+    struct profile profile;
+    if (read_profile(text, text_len, &profile) != 0)
+        return granted(0, 0, 0);
+    struct offer one = read_offer(&profile, first, first_len);
+    struct offer other = read_offer(&profile, second, second_len);
+    bool better = other.count < one.count || (other.count == one.count && other.error < one.error);
+    if (other.bytes > 0 && (one.bytes == 0 || better))
+        return granted(2, (unsigned)other.bytes, 0);
+    return granted(one.bytes > 0, (unsigned)one.bytes, 0);
 }

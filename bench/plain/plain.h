@@ -1,4 +1,4 @@
-/* The panel's four calls in plain C, with the arguments and packed results of include/panel.h. */
+/* The panel's calls in plain C, with the arguments and packed results of include/panel.h. */
 #ifndef PLAIN_H
 #define PLAIN_H
 
@@ -9,5 +9,6 @@ uint64_t plain_text_to_record(const uint8_t *text, size_t text_len, uint8_t *rec
 uint64_t plain_record_slot(const uint8_t *record, size_t record_len, uint64_t slot);
 uint64_t plain_record_against_text(const uint8_t *record, size_t record_len, const uint8_t *text, size_t text_len);
 uint64_t plain_least_band_of_text(const uint8_t *text, size_t text_len, uint64_t budget);
+uint64_t plain_better_offer(const uint8_t *text, size_t text_len, const uint8_t *first, size_t first_len, const uint8_t *second, size_t second_len);
 
 #endif

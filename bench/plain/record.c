@@ -81,6 +81,14 @@ static bool read_terms(struct bit_reader *from, struct synopsis *synopsis)
     return true;
 }
 
+size_t front_bytes(const uint8_t *buffer, size_t length)
+{
+    if (length < record_bytes(0))
+        return 0;
+    size_t bytes = record_bytes((buffer[5] & 7) << 7 | buffer[6] >> 1);
+    return bytes <= length ? bytes : 0;
+}
+
 int read_record(const uint8_t *record, size_t length, struct synopsis *synopsis)
 {
     struct bit_reader from = { record, 0, 0 };

@@ -8,13 +8,13 @@
 #include <stdbool.h>
 #include <string.h>
 
-enum call { TEXT_TO_RECORD, RECORD_SLOT, RECORD_AGAINST_TEXT, LEAST_BAND_OF_TEXT, CALLS };
+enum call { TEXT_TO_RECORD, RECORD_SLOT, RECORD_AGAINST_TEXT, LEAST_BAND_OF_TEXT, BETTER_OFFER, CALLS };
 
 static const char *const CALL_NAMES[CALLS] = {
-    "text_to_record", "record_slot", "record_against_text", "least_band_of_text"
+    "text_to_record", "record_slot", "record_against_text", "least_band_of_text", "better_offer"
 };
 
-/* A row of the benchmark: its record is one that was made elsewhere, or the one built of the text of an earlier row. */
+/* A row of the benchmark: its records are made elsewhere, or each is the one built of the text of an earlier row. */
 struct row {
     const char *name;
     enum call call;
@@ -23,6 +23,8 @@ struct row {
     size_t text_len;
     const uint8_t *record;
     size_t record_len;
+    const uint8_t *second;
+    size_t second_len;
     int built_by;
 };
 
@@ -36,6 +38,8 @@ static const uint8_t *text;
 static size_t text_len;
 static const uint8_t *record;
 static size_t record_len;
+static const uint8_t *second;
+static size_t second_len;
 static uint64_t number;
 static size_t destination_len;
 static uint64_t result;
@@ -108,8 +112,11 @@ static void call(void)
     case RECORD_AGAINST_TEXT:
         result = panel_record_against_text(record, record_len, text, text_len);
         break;
-    default:
+    case LEAST_BAND_OF_TEXT:
         result = panel_least_band_of_text(text, text_len, number);
+        break;
+    default:
+        result = panel_better_offer(text, text_len, record, record_len, second, second_len);
     }
 }
 
@@ -159,6 +166,23 @@ static void ask_least_band(uint64_t budget)
     ask(LEAST_BAND_OF_TEXT);
 }
 
+/* The record and another one as offers for the text, either of them first. */
+static void ask_offers(const uint8_t *other, size_t other_len)
+{
+    const uint8_t *own = record;
+    size_t own_len = record_len;
+    second = other;
+    second_len = other_len;
+    ask(BETTER_OFFER);
+    record = other;
+    record_len = other_len;
+    second = own;
+    second_len = own_len;
+    ask(BETTER_OFFER);
+    record = own;
+    record_len = own_len;
+}
+
 /* Builds the record of the text and takes it as the record that is asked about. */
 static struct taken build(void)
 {
@@ -174,6 +198,7 @@ static void fire(unsigned slots)
 {
     build();
     ask(RECORD_AGAINST_TEXT);
+    ask_offers(built, sizeof built);
     ask_slot(0);
     ask_slot(slots / 3);
     ask_slot(slots / 2);
@@ -190,6 +215,8 @@ static struct taken ask_row(const struct row *row)
     text_len = row->text_len;
     record = row->record;
     record_len = row->record_len;
+    second = row->second;
+    second_len = row->second_len;
     number = row->number;
     if (row->call == TEXT_TO_RECORD)
         return build();
@@ -197,6 +224,8 @@ static struct taken ask_row(const struct row *row)
         ask_row(&BENCHMARK[row->built_by]);
         text = row->text;
         text_len = row->text_len;
+        second = built;
+        second_len = record_len;
         number = row->number;
     }
     return ask(row->call);
@@ -313,6 +342,7 @@ static void ask_texts(void)
     for (size_t i = 0; i < sizeof texts / sizeof texts[0]; i++) {
         take_text(texts[i]);
         build();
+        ask_offers(built, sizeof built);
         record_len = 0;
         ask(RECORD_AGAINST_TEXT);
         ask_least_band(1024);
@@ -341,6 +371,7 @@ static void ask_record(void)
 {
     ask_slot(1);
     ask(RECORD_AGAINST_TEXT);
+    ask_offers(built, sizeof built);
 }
 
 /* The record that was built, with one byte changed, with fewer bytes and with one more. */

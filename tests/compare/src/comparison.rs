@@ -1,4 +1,4 @@
-//! One call at a time: the library's answer beside document 01's, and the lent memory beside what it must hold.
+//! One call at a time: the library's answer beside the documents', and the lent memory beside what it must hold.
 
 use crate::coverage::Coverage;
 use crate::document::calls::{Answer, Call, Document, packed};
@@ -50,6 +50,11 @@ impl Comparison {
 
     pub fn least_band_of_text(&mut self, text: &[u8], budget: u64) -> [u16; 4] {
         self.answered(Call::LeastBandOfText { text, budget }, library::least_band_of_text(text, budget)).1
+    }
+
+    pub fn better_offer(&mut self, text: &[u8], first: &[u8], second: &[u8]) -> [u16; 4] {
+        let call = Call::BetterOffer { text, first, second };
+        self.answered(call, library::better_offer(text, first, second)).1
     }
 
     /// The answer, and the record where one was written as it should be.

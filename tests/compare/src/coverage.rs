@@ -1,8 +1,12 @@
-//! Which outcomes each of the four calls and the program `fire` have shown, counted by name; a run that misses one that document 01 allows has failed.
+//! Which outcomes each call and the program `fire` have shown, counted by name; a run that misses one that the documents allow has failed.
 
 use crate::document::calls::{Answer, Call};
+use crate::document::offers::{ENDINGS, Ending, LACKS, Lack, better_offer, candidate};
 use crate::document::refusal::{ALL, Calls, Refusal};
+use crate::document::text::read_text;
 use std::collections::HashMap;
+use std::fmt::Debug;
+use std::hash::Hash;
 
 const AGAINST_TEXT: Calls = [false, false, true, false, false];
 /// The last column.
@@ -51,23 +55,33 @@ fn slots_of(text: &[u8]) -> usize {
     text.iter().filter(|&&byte| byte == 10).count() - 2
 }
 
-fn column(call: Call) -> usize {
-    match call {
-        Call::TextToRecord { .. } => 0,
-        Call::RecordSlot { .. } => 1,
-        Call::RecordAgainstText { .. } => 2,
-        Call::LeastBandOfText { .. } => 3,
-    }
-}
-
 #[derive(Default)]
 pub struct Coverage {
     met: HashMap<Outcome, [u64; 5]>,
+    endings: HashMap<Ending, u64>,
+    lacks: HashMap<Lack, u64>,
 }
 
 impl Coverage {
     pub fn note(&mut self, call: Call, answer: Answer) {
-        self.met.entry(Outcome::of(call, answer)).or_default()[column(call)] += 1;
+        let column = match call {
+            Call::TextToRecord { .. } => 0,
+            Call::RecordSlot { .. } => 1,
+            Call::RecordAgainstText { .. } => 2,
+            Call::LeastBandOfText { .. } => 3,
+            Call::BetterOffer { text, first, second } => return self.note_offers(text, first, second),
+        };
+        self.met.entry(Outcome::of(call, answer)).or_default()[column] += 1;
+    }
+
+    /// How a choice between two offers ends, and what each that is no candidate lacks.
+    fn note_offers(&mut self, text: &[u8], first: &[u8], second: &[u8]) {
+        *self.endings.entry(better_offer(text, first, second).0).or_default() += 1;
+        if let Ok(profile) = read_text(text) {
+            for lack in [first, second].into_iter().filter_map(|buffer| candidate(&profile, buffer).err()) {
+                *self.lacks.entry(lack).or_default() += 1;
+            }
+        }
     }
 
     /// The outcome of a firing, by the answer that building the same text has.
@@ -90,6 +104,8 @@ impl Coverage {
                 cells.map(|(&allowed, count)| if allowed { format!("{count:>9}") } else { format!("{:>9}", "-") });
             println!("{number:>2}  {words:42}{}", cells.collect::<String>());
         }
+        println!("two offers, by how the choice ends: {}", listed(&ENDINGS, &self.endings));
+        println!("two offers, by what one lacks: {}", listed(&LACKS, &self.lacks));
     }
 
     /// Whether every call has shown every outcome that it can have.
@@ -98,5 +114,13 @@ impl Coverage {
             outcome.row().1.iter().zip(self.counts(outcome)).all(|(&allowed, count)| !allowed || count > 0)
         };
         Outcome::all().all(all_met)
+            && ENDINGS.iter().all(|ending| self.endings.contains_key(ending))
+            && LACKS.iter().all(|lack| self.lacks.contains_key(lack))
     }
+}
+
+/// Names with their counts.
+fn listed<T: Debug + Eq + Hash>(names: &[T], counts: &HashMap<T, u64>) -> String {
+    let count = |name| counts.get(name).copied().unwrap_or_default();
+    names.iter().map(|name| format!("{name:?} {}", count(name))).collect::<Vec<_>>().join(", ")
 }

@@ -1,4 +1,4 @@
-//! The library for C: its four functions, each behind a safe one. Nothing checks these declarations against the library.
+//! The library for C: its functions, each behind a safe one. Nothing checks these declarations against the library.
 
 #[link(name = "panel", kind = "static")]
 unsafe extern "C" {
@@ -6,6 +6,14 @@ unsafe extern "C" {
     fn panel_record_slot(record: *const u8, record_len: usize, slot: u64) -> u64;
     fn panel_record_against_text(record: *const u8, record_len: usize, text: *const u8, text_len: usize) -> u64;
     fn panel_least_band_of_text(text: *const u8, text_len: usize, budget: u64) -> u64;
+    fn panel_better_offer(
+        text: *const u8,
+        text_len: usize,
+        first: *const u8,
+        first_len: usize,
+        second: *const u8,
+        second_len: usize,
+    ) -> u64;
 }
 
 pub fn text_to_record(text: &[u8], record: &mut [u8]) -> u64 {
@@ -22,4 +30,8 @@ pub fn record_against_text(record: &[u8], text: &[u8]) -> u64 {
 
 pub fn least_band_of_text(text: &[u8], budget: u64) -> u64 {
     unsafe { panel_least_band_of_text(text.as_ptr(), text.len(), budget) }
+}
+
+pub fn better_offer(text: &[u8], first: &[u8], second: &[u8]) -> u64 {
+    unsafe { panel_better_offer(text.as_ptr(), text.len(), first.as_ptr(), first.len(), second.as_ptr(), second.len()) }
 }

@@ -1,4 +1,4 @@
-//! The second program: document 01 written anew from the paper alone, and compared with the library for C and with the
+//! The second program: the documents written anew from the paper alone, and compared with the library for C and with the
 //! program `fire` on many inputs.
 
 mod comparison;

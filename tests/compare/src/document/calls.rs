@@ -1,6 +1,7 @@
-//! The four calls of the panel's firmware, and what document 01 has each of them answer.
+//! The calls of the panel's firmware, and what the documents have each of them answer.
 
 use super::BUDGET_LIMIT;
+use super::offers::better_offer;
 use super::optimum::Optimum;
 use super::record::{byte_count, read_record};
 use super::refusal::Refusal;
@@ -15,6 +16,7 @@ pub enum Call<'a> {
     RecordSlot { record: &'a [u8], slot: u64 },
     RecordAgainstText { record: &'a [u8], text: &'a [u8] },
     LeastBandOfText { text: &'a [u8], budget: u64 },
+    BetterOffer { text: &'a [u8], first: &'a [u8], second: &'a [u8] },
 }
 
 /// The three results beside the refusal's number, or the refusal.
@@ -40,6 +42,10 @@ impl Document {
             Call::RecordSlot { record, slot } => record_slot(record, slot),
             Call::RecordAgainstText { record, text } => record_against_text(record, text),
             Call::LeastBandOfText { text, budget } => self.least_band_of_text(text, budget),
+            Call::BetterOffer { text, first, second } => {
+                let [winner, bytes] = better_offer(text, first, second).1;
+                Ok([winner, bytes, 0])
+            }
         }
     }
 
@@ -111,6 +117,10 @@ impl fmt::Display for Call<'_> {
             }
             Call::LeastBandOfText { text, budget } => {
                 write!(out, "least band of a text, budget {budget}, text \"{}\"", text.escape_ascii())
+            }
+            Call::BetterOffer { text, first, second } => {
+                let [first, second] = [first, second].map(|buffer| hexadecimal(buffer));
+                write!(out, "better offer, first {first}, second {second}, text \"{}\"", text.escape_ascii())
             }
         }
     }

@@ -1,9 +1,10 @@
-//! Document 01 written a second time, from the paper alone: a module a section.
+//! Document 01 written a second time, from the paper alone, as document 02's requests have changed it so far: a module a section.
 //! Readings of its open places are those of docs/DECISIONS.md.
 
 pub mod calls;
 pub mod every;
 pub mod number;
+pub mod offers;
 pub mod optimum;
 pub mod printed;
 pub mod record;

@@ -79,6 +79,11 @@ fn signed_field(record: &[u8], start: usize) -> i32 {
     i32::from(field(record, start, 16) as u16 as i16)
 }
 
+/// The count of terms in bytes that begin as a record does; none where they end before it.
+pub fn term_count(bytes: &[u8]) -> Option<usize> {
+    (8 * bytes.len() >= HEADER_BITS).then(|| field(bytes, 45, 10) as usize)
+}
+
 /// Refusals 7, 2, 3, 8, in this order.
 pub fn read_record(record: &[u8]) -> Result<Record, Refusal> {
     let count = read_frame(record)?;

@@ -54,6 +54,7 @@ pub const ALL: [Refusal; 22] = [
 ];
 
 /// Which calls can give a refusal: text to record, one slot, record against text, least band of a text, the program `fire`.
+/// The better of two offers gives none.
 pub type Calls = [bool; 5];
 const ON_TEXT: Calls = [true, false, true, true, true];
 const ON_RECORD: Calls = [false, true, true, false, false];

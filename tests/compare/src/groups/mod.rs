@@ -4,6 +4,7 @@ mod budgets;
 mod firings;
 mod instances;
 mod numbers;
+mod offers;
 mod program;
 mod records;
 mod self_check;
@@ -13,7 +14,7 @@ use crate::comparison::Comparison;
 
 pub type Group = fn(&mut Comparison);
 
-pub const ALL: [(&str, Group); 8] = [
+pub const ALL: [(&str, Group); 9] = [
     ("the second program against itself", self_check::run),
     ("document 01's instances", instances::run),
     ("numbers as typed", numbers::run),
@@ -21,5 +22,6 @@ pub const ALL: [(&str, Group); 8] = [
     ("firings: built, restored, checked", firings::run),
     ("budgets", budgets::run),
     ("records, good and damaged", records::run),
+    ("the better of two offers", offers::run),
     ("the program fire", program::run),
 ];

@@ -1,12 +1,12 @@
 //! Records, whole and damaged field by field and bit by bit: one slot, and against texts of their own and of others.
 
 use crate::comparison::Comparison;
+use crate::document::SLOT_LIMIT;
 use crate::document::record::{Fields, Record, byte_count};
 use crate::document::synopsis::{padded_length, restored};
 use crate::document::text::{Profile, write_text};
-use crate::document::{SLOT_LIMIT, VALUE_LIMIT};
 use crate::inputs::changes::{add_term, changes, put_terms};
-use crate::inputs::profiles::{any_profile, band, record, value};
+use crate::inputs::profiles::{any_profile, away, band, record, value};
 use crate::inputs::random::Random;
 
 /// Slots beyond every record, also those that end in a small number when cut short.
@@ -68,12 +68,6 @@ fn checked(comparison: &mut Comparison, random: &mut Random, record: &Record) {
         comparison.record_against_text(&bytes, &text[..text.len() - 1]);
         comparison.record_against_text(&bytes[..bytes.len() - 1], &text);
     }
-}
-
-/// A value so far from another, where the limits have one.
-fn away(value: i32, distance: i32) -> i32 {
-    let step = if value > 0 { -distance } else { distance };
-    (value + step).clamp(-VALUE_LIMIT, VALUE_LIMIT)
 }
 
 /// What a record restores below n, as a profile; its rest value and band are not the record's and do not count.

@@ -22,6 +22,11 @@ fn clipped(value: i32) -> i32 {
     value.clamp(-VALUE_LIMIT, VALUE_LIMIT)
 }
 
+/// A value so far from another, where the limits have one.
+pub fn away(value: i32, distance: i32) -> i32 {
+    clipped(if value > 0 { value - distance } else { value + distance })
+}
+
 fn anywhere(random: &mut Random, slots: usize) -> Vec<i32> {
     (0..slots).map(|_| value(random)).collect()
 }

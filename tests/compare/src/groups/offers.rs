@@ -1,0 +1,125 @@
+//! Two offers for one text: one, two or no candidates, equal ones, bytes behind them, short buffers, counts that point past the
+//! end, records that read and are for another profile, and texts that are refused.
+
+use crate::comparison::Comparison;
+use crate::document::record::{Record, byte_count};
+use crate::document::synopsis::{Term, padded};
+use crate::document::text::{Profile, write_text};
+use crate::inputs::changes::Change;
+use crate::inputs::profiles::{SHAPES, any_profile, away, profile, record};
+use crate::inputs::random::Random;
+
+/// Document 01's text of one firing with its record of one term, and a record of two terms that is kept with the same error.
+const TEXT: &[u8] = b"14,00\n0,25\n14,10\n13,90\n20,00\n19,50\n";
+const ONE_TERM: [u8; 11] = [0x10, 0x18, 0x00, 0xC8, 0x2B, 0xC0, 0x02, 0x01, 0x83, 0xDB, 0x80];
+
+pub fn run(comparison: &mut Comparison) {
+    let mut random = Random::new(7);
+    by_name(comparison);
+    for shape in SHAPES {
+        for slots in [1, 2, 3, 4, 5, 7, 8, 13, 40] {
+            let profile = profile(&mut random, shape, slots);
+            every_pair(comparison, &mut random, &profile);
+        }
+    }
+    for slots in [257, 300, 512] {
+        let profile = any_profile(&mut random, slots);
+        every_pair(comparison, &mut random, &profile);
+    }
+    for _ in 0..20_000 {
+        chance_bytes(comparison, &mut random);
+    }
+}
+
+fn by_name(comparison: &mut Comparison) {
+    let terms = vec![Term { node: 2, value: 1400 }, Term { node: 3, value: 1975 }];
+    let two_terms = Record { slots: 4, band: 25, rest: 1400, terms }.bytes();
+    let behind = [ONE_TERM.as_slice(), &[0x10, 0xFF, 0x00]].concat();
+    let cases: [(&str, &[u8], &[u8], [u16; 4]); 8] = [
+        ("fewer terms, in the first buffer", &ONE_TERM, &two_terms, [0, 1, 11, 0]),
+        ("fewer terms, in the second buffer", &two_terms, &ONE_TERM, [0, 2, 11, 0]),
+        ("equal offers", &ONE_TERM, &ONE_TERM, [0, 1, 11, 0]),
+        ("equal offers, bytes behind the first", &behind, &ONE_TERM, [0, 1, 11, 0]),
+        ("bytes behind the only candidate", &[], &behind, [0, 2, 11, 0]),
+        ("a record that its buffer cuts short", &ONE_TERM[..10], &two_terms, [0, 2, 14, 0]),
+        ("a buffer that ends before its count", &ONE_TERM[..6], &ONE_TERM[..7], [0, 0, 0, 0]),
+        ("no bytes", &[], &[], [0, 0, 0, 0]),
+    ];
+    for (name, first, second, gives) in cases {
+        let answer = comparison.better_offer(TEXT, first, second);
+        comparison.same("two offers for document 01's text", &name, gives, answer);
+    }
+    for end in 0..TEXT.len() {
+        let answer = comparison.better_offer(&TEXT[..end], &ONE_TERM, &ONE_TERM);
+        comparison.same("two offers for a front part of document 01's text", &end, [0; 4], answer);
+    }
+}
+
+/// Every two of many buffers, in either order, for a text that is accepted and for one that is not.
+fn every_pair(comparison: &mut Comparison, random: &mut Random, profile: &Profile) {
+    let text = write_text(profile);
+    let buffers = buffers(comparison, random, profile, &text);
+    for first in &buffers {
+        for second in &buffers {
+            comparison.better_offer(&text, first, second);
+        }
+        comparison.better_offer(&text[..text.len() - 1], first, &buffers[0]);
+    }
+}
+
+/// Candidates for a profile, each with bytes behind it too; the same damaged; and records for other profiles.
+fn buffers(comparison: &mut Comparison, random: &mut Random, profile: &Profile, text: &[u8]) -> Vec<Vec<u8>> {
+    let built = comparison.text_to_record(text, byte_count(1_023)).1.unwrap_or_default();
+    let leaves = [0, profile.band / 2, profile.band, profile.band + 1].map(|error| with_leaves(profile, error));
+    let mut buffers = vec![built.clone()];
+    buffers.extend(leaves.iter().map(Record::bytes));
+    buffers.extend(leaves.iter().map(|record| with_root(record).bytes()));
+    let behind: Vec<u8> = (0..1 + random.below(9)).map(|_| random.next() as u8).collect();
+    let lengthened: Vec<Vec<u8>> = buffers.iter().map(|record| [record.as_slice(), &behind].concat()).collect();
+    buffers.extend(lengthened);
+    buffers.extend((0..=8).chain([built.len() - 1]).map(|end| built[..end.min(built.len())].to_vec()));
+    let changes = [
+        Change::Version(2),
+        Change::Fill(1),
+        Change::Length(profile.setpoints.len() as i32 % 512),
+        Change::Band(profile.band + 1),
+        Change::Band((profile.band - 1).max(0)),
+        Change::Rest(away(profile.rest, 1)),
+        Change::CountBy(1),
+        Change::CountBy(-1),
+        Change::NodeTo(0, 0),
+        Change::ValueTo(0, 20_001),
+    ];
+    buffers.extend(changes.iter().map(|change| {
+        let mut fields = with_leaves(profile, 0).fields();
+        change.apply(&mut fields);
+        [fields.bytes(), behind.clone()].concat()
+    }));
+    buffers.push(record(random, profile.setpoints.len(), 4).bytes());
+    buffers
+}
+
+/// A term on every leaf, so far from its setpoint, where the limits have such a value.
+fn with_leaves(profile: &Profile, error: i32) -> Record {
+    let all = padded(&profile.setpoints);
+    let term = |(slot, &setpoint): (usize, &i32)| Term { node: all.len() + slot, value: away(setpoint, error) };
+    let terms = all.iter().enumerate().map(term).collect();
+    Record { slots: profile.setpoints.len(), band: profile.band, rest: profile.rest, terms }
+}
+
+/// One term more, at the root, or the same where it has one.
+fn with_root(record: &Record) -> Record {
+    let root = Term { node: 1, value: record.rest };
+    let others = record.terms.iter().copied().filter(|term| term.node != root.node);
+    Record { terms: [root].into_iter().chain(others).collect(), ..record.clone() }
+}
+
+/// Buffers of up to 23 bytes of any content that begin like a record, beside one that wins.
+fn chance_bytes(comparison: &mut Comparison, random: &mut Random) {
+    let mut any: Vec<u8> = (0..random.below(24)).map(|_| random.next() as u8).collect();
+    let alike = random.below(any.len() + 1).min(ONE_TERM.len());
+    any[..alike].copy_from_slice(&ONE_TERM[..alike]);
+    comparison.better_offer(TEXT, &any, &ONE_TERM);
+    comparison.better_offer(TEXT, &ONE_TERM, &any);
+    comparison.better_offer(TEXT, &any, &any);
+}
