@@ -1,7 +1,7 @@
 """The benchmark's requests: what each call is asked, for bench/run on this machine and for firmware/test on the panel's core.
 
 Reading a text is counted by a call that has nothing else to do: the least band for a budget of 1,024, refused with 5 once the text is read.
-The better of two offers comes with the reading of its text and the checks of its two records.
+The better of two offers has rows beside it for reading its text and checking its two records.
 """
 import pathlib
 import random
@@ -76,18 +76,19 @@ def reading(name, text):
 
 
 def offers(setpoints):
-    """Two offers for one text, and what is read and checked for them: the longest records, and short ones."""
+    """Two offers for one text, and what is read and checked for them: the longest records, and a short one twice, which is checked above."""
     rng = random.Random(1)
-    longest = [packed(512, 40000, 0, [(node, rng.randrange(-20000, 20001)) for node in range(1, 1024)]) for _ in range(2)]
-    wide = profile(40000, setpoints, rest=0)
+    first, second = [packed(512, 40000, 0, [(node, rng.randrange(-20000, 20001)) for node in range(1, 1024)]) for _ in range(2)]
+    text = profile(40000, setpoints, rest=0)
     noisy = (EXAMPLES / "noisy.txt").read_bytes()
-    short = (EXAMPLES / "coal-change.txt").read_bytes()
-    for name, text, record, second in [("1,023 terms", wide, *longest), ("noisy.txt", noisy, "build noisy.txt", "build noisy.txt"),
-                                       ("coal-change.txt", short, "build coal-change.txt", "build coal-change.txt")]:
-        yield Case(f"two offers, {name}", "better_offer", text=text, record=record, second=second)
-        yield reading(f"for two offers, {name}", text)
-        yield Case(f"check the first offer, {name}", "record_against_text", text=text, record=record)
-        yield Case(f"check the second offer, {name}", "record_against_text", text=text, record=second)
+    return [
+        Case("two offers, 1,023 terms", "better_offer", text=text, record=first, second=second),
+        Case("two offers, noisy.txt", "better_offer", text=noisy, record="build noisy.txt", second="build noisy.txt"),
+        reading("the text of two offers, 1,023 terms", text),
+        reading("noisy.txt", noisy),
+        Case("check the first offer, 1,023 terms", "record_against_text", text=text, record=first),
+        Case("check the second offer, 1,023 terms", "record_against_text", text=text, record=second),
+    ]
 
 
 def other_calls():
@@ -107,4 +108,4 @@ def other_calls():
     for budget in [0, 16, 255]:
         for shape in ["512 random", "512 on a ramp"]:
             cases.append(Case(f"least band of {shape}, budget {budget}", "least_band_of_text", budget, profile(0, setpoints[shape])))
-    return readings() + cases + list(offers(setpoints["512 random"]))
+    return readings() + cases + offers(setpoints["512 random"])
