@@ -1,5 +1,5 @@
 /* A first program on the burner panel's library: profile text to record, slots read back, the record
- * checked against its text, and the least band for a few budgets.
+ * checked against its text, the least band for a few budgets, and the better of two offers.
  *
  *     main            the profile below, and a text that is refused
  *     main FILE       the profile text in a file
@@ -11,6 +11,11 @@
 
 static const char EMBEDDED[] = "14,00\n0,25\n14,10\n13,90\n20,00\n19,50\n";
 static const char FAULTY[] = "14,00\n0,25\n14,10\n13,\n";
+
+/* What the line has left in the buffer of the control room: a record of two terms for the profile above, and bytes behind it. */
+static const uint8_t FROM_CONTROL_ROOM[] = {
+    0x10, 0x18, 0x00, 0xC8, 0x2B, 0xC0, 0x04, 0x01, 0x02, 0xBC, 0x00, 0x60, 0xF6, 0xE0, 0x7E, 0x00
+};
 
 /* Static, as in firmware: the stack is for the calls. One byte more than can be accepted, so that a longer file is refused and not cut. */
 static uint8_t text[PANEL_MOST_TEXT_BYTES + 1];
@@ -118,6 +123,18 @@ static void ask_least_bands(size_t text_len)
     }
 }
 
+/* The control room's offer beside the panel's own; the winner is used where it lies. */
+static void compare_offers(size_t record_len, size_t text_len)
+{
+    uint64_t better = panel_better_offer(text, text_len, FROM_CONTROL_ROOM, sizeof FROM_CONTROL_ROOM, record, record_len);
+    if (panel_winner(better) == PANEL_NO_OFFER) {
+        printf("no offer is for this text\n");
+        return;
+    }
+    const uint8_t *winner = panel_winner(better) == PANEL_FIRST_OFFER ? FROM_CONTROL_ROOM : record;
+    printf("better offer: number %u, %u bytes, from %02X on\n", (unsigned)panel_winner(better), (unsigned)panel_winner_bytes(better), winner[0]);
+}
+
 /* The answer is the program's exit status. */
 static int fire(const char *name, size_t text_len)
 {
@@ -128,6 +145,7 @@ static int fire(const char *name, size_t text_len)
     read_back(record_len);
     check(record_len, text_len);
     ask_least_bands(text_len);
+    compare_offers(record_len, text_len);
     return 0;
 }
 

@@ -1,9 +1,10 @@
-// Runs document 01's instances of numbers, texts, levels, restoring and records, and others beside them, and prints each with its answer.
+// Runs document 01's instances of numbers, texts, levels, restoring and records, others beside them, and offers of records, and prints each with its answer.
 mod levels;
 mod numbers;
 mod records;
 mod restoring;
 mod texts;
+mod winners;
 
 fn main() {
     numbers::run();
@@ -11,4 +12,5 @@ fn main() {
     levels::run();
     restoring::run();
     records::run();
+    winners::run();
 }
