@@ -1,15 +1,14 @@
 -- What a buffer offers, and what the winner is, in the words of `specs/Plainly.antt`.
-use mathlib.Core.Path.{_≡_, refl, sym, ap, subst, _∙_}
+use mathlib.Core.Path.{_≡_, refl, sym, subst, _∙_}
 use mathlib.Core.Bool.{Bool, true, false, _&&_, _||_}
 use mathlib.Core.List.{List}
 use Prim.Native.Nat.{ℕ, zero, suc, _≤_}
 use native.Mathlib.Omega.{arith}
 use lib.Dec.{leb, ltb, eqb}
 use lib.IntN.{pos}
-use lib.ListN.{length, take}
+use lib.ListN.{length}
 use lib.Seq.{length-take-le}
-use borrow.Author.Tests.{ltb-true, ltb-false, lt-ltb, le-ltb, leb-true, le-leb, eqb-true, eqb-false, eq-eqb}
-use Rattle.limits.specs.Answers.{granted}
+use borrow.Author.Tests.{ltb-true, lt-ltb, le-ltb, leb-true, le-leb, eqb-true, eq-eqb}
 use Rattle.limits.proofs.Tests.{both-hold}
 use Rattle.profile.specs.Text.{textRefusal, restOf, bandOf, setpointsOf}
 use Rattle.record.specs.Record.{slotsIn, bandIn, restIn, countIn, termsIn}
@@ -89,8 +88,8 @@ module _ (text buffer : List ℕ) where
 -- ---- which of two candidates is better
 
 module _ (text one other : List ℕ) where
-  is-beaten : isBetter (offered text one) (offered text other) ≡ true → Beats text one other
-  is-beaten test = by-terms (ltb (countIn (recordOf one)) (countIn (recordOf other))) refl test
+  test-beats : isBetter (offered text one) (offered text other) ≡ true → Beats text one other
+  test-beats test = by-terms (ltb (countIn (recordOf one)) (countIn (recordOf other))) refl test
     where
       by-terms : (fewer : Bool) → ltb (countIn (recordOf one)) (countIn (recordOf other)) ≡ fewer
           → (fewer || (eqb (countIn (recordOf one)) (countIn (recordOf other)) && ltb (errorOf text one) (errorOf text other))) ≡ true → Beats text one other
@@ -99,9 +98,9 @@ module _ (text one other : List ℕ) where
           let both = both-hold (eqb (countIn (recordOf one)) (countIn (recordOf other))) _ test in
           smaller-error (eqb-true (countIn (recordOf one)) (countIn (recordOf other)) (both .0)) (ltb-true (errorOf text one) (errorOf text other) (both .1))
 
-  beaten-is : Beats text one other → isBetter (offered text one) (offered text other) ≡ true
-  beaten-is (fewer-terms fewer) = rw (lt-ltb (countIn (recordOf one)) (countIn (recordOf other)) fewer)
-  beaten-is (smaller-error same smaller) =
+  beats-test : Beats text one other → isBetter (offered text one) (offered text other) ≡ true
+  beats-test (fewer-terms fewer) = rw (lt-ltb (countIn (recordOf one)) (countIn (recordOf other)) fewer)
+  beats-test (smaller-error same smaller) =
       rw (
         le-ltb (countIn (recordOf one)) (countIn (recordOf other)) (omega arith),
         eq-eqb (countIn (recordOf one)) (countIn (recordOf other)) same,
@@ -109,6 +108,11 @@ module _ (text one other : List ℕ) where
       )
 
 -- ---- the winner
+
+-- bytes that lie in a buffer, and are no more than the longest record's
+pub record Within (count : ℕ) (buffer : List ℕ) : Type 0 where
+  pub inside : count ≤ length buffer
+  pub few : count ≤ 3332
 
 module _ (text first second : List ℕ) where
   pub data Won : Type 0 where
@@ -127,9 +131,9 @@ module _ (text first second : List ℕ) where
       by-offers right (some a-first is-first) (some a-second is-second) = by-test (isBetter (offered text second) (offered text first)) refl
         where
           by-test : (wins : Bool) → isBetter (offered text second) (offered text first) ≡ wins → Won
-          by-test true wins = second-won (rw (right, a-first, a-second, wins)) is-second (λ _. is-beaten text second first wins)
+          by-test true wins = second-won (rw (right, a-first, a-second, wins)) is-second (λ _. test-beats text second first wins)
           by-test false wins =
-              first-won (rw (right, a-first, a-second, wins)) is-first (λ _ beats. absurd (mathlib.Core.Bool.false≢true (sym wins ∙ beaten-is text second first beats)))
+              first-won (rw (right, a-first, a-second, wins)) is-first (λ _ beats. absurd (mathlib.Core.Bool.false≢true (sym wins ∙ beats-test text second first beats)))
 
       by-text : (refusal : ℕ) → textRefusal text ≡ refusal → Won
       by-text zero right = by-offers right (offers text first right) (offers text second right)
@@ -137,11 +141,7 @@ module _ (text first second : List ℕ) where
           let refused : (buffer : List ℕ) → HasCandidate text buffer → ⊥ = λ buffer it. absurd (omega (arith, wrong, it .text-right)) in
           neither-won (rw wrong) (record { first-none = refused first; second-none = refused second })
 
-  -- the winner's bytes lie in its buffer, and are no more than the longest record's
-  pub record Within (count : ℕ) (buffer : List ℕ) : Type 0 where
-    pub inside : count ≤ length buffer
-    pub few : count ≤ 3332
-
+  -- the winner's are such bytes
   abbrev WinnerWithin : Winner → Type 0
   WinnerWithin Neither = Unit
   WinnerWithin (First count) = Within count first

@@ -1,7 +1,6 @@
 -- `record_check::judge_record` meets its contract: a header's numbers pass unchanged into narrower ones.
 use mathlib.Core.Path.{sym}
 use native.Mathlib.Omega.{arith}
-use lib.IntN.{natAbs}
 use lib.Seq.{length-take-le}
 use mir.Syntax.{w32}
 use mir.Val.{SFits}
