@@ -76,18 +76,21 @@ def reading(name, text):
 
 
 def offers(setpoints):
-    """Two offers for one text, and what is read and checked for them: the longest records, and a short one twice, which is checked above."""
+    """Two offers for one text, and what is read and checked for them: the longest records, one of them beside the shortest, and one twice."""
     rng = random.Random(1)
     first, second = [packed(512, 40000, 0, [(node, rng.randrange(-20000, 20001)) for node in range(1, 1024)]) for _ in range(2)]
+    shortest = packed(512, 40000, 0, [])
     text = profile(40000, setpoints, rest=0)
     noisy = (EXAMPLES / "noisy.txt").read_bytes()
     return [
         Case("two offers, 1,023 terms", "better_offer", text=text, record=first, second=second),
+        Case("two offers, 1,023 terms and none", "better_offer", text=text, record=first, second=shortest),
         Case("two offers, noisy.txt", "better_offer", text=noisy, record="build noisy.txt", second="build noisy.txt"),
-        reading("the text of two offers, 1,023 terms", text),
+        reading("the text of 1,023 terms", text),
         reading("noisy.txt", noisy),
         Case("check the first offer, 1,023 terms", "record_against_text", text=text, record=first),
         Case("check the second offer, 1,023 terms", "record_against_text", text=text, record=second),
+        Case("check the offer of no terms", "record_against_text", text=text, record=shortest),
     ]
 
 

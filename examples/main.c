@@ -12,10 +12,8 @@
 static const char EMBEDDED[] = "14,00\n0,25\n14,10\n13,90\n20,00\n19,50\n";
 static const char FAULTY[] = "14,00\n0,25\n14,10\n13,\n";
 
-/* What the line has left in the buffer of the control room: a record of two terms for the profile above, and bytes behind it. */
-static const uint8_t FROM_CONTROL_ROOM[] = {
-    0x10, 0x18, 0x00, 0xC8, 0x2B, 0xC0, 0x04, 0x01, 0x02, 0xBC, 0x00, 0x60, 0xF6, 0xE0, 0x7E, 0x00
-};
+/* What the line has left in the control room's buffer: a record for the profile above, and bytes behind it. */
+static const uint8_t FROM_CONTROL_ROOM[] = { 0x10, 0x18, 0x00, 0xC8, 0x2B, 0xC0, 0x02, 0x01, 0x83, 0xDB, 0x80, 0x7E, 0x00 };
 
 /* Static, as in firmware: the stack is for the calls. One byte more than can be accepted, so that a longer file is refused and not cut. */
 static uint8_t text[PANEL_MOST_TEXT_BYTES + 1];
@@ -54,10 +52,11 @@ static void print_value(const char *before, int32_t hundredths)
     printf("%s%s%d,%02d", before, hundredths < 0 ? "-" : "", (int)(size / 100), (int)(size % 100));
 }
 
-static void print_bytes(size_t length)
+/* The first bytes of a record, or all of a short one. */
+static void print_bytes(const uint8_t *bytes, size_t length)
 {
-    for (size_t i = 0; i < length; i++)
-        printf(" %02X", record[i]);
+    for (size_t i = 0; i < length && i < 11; i++)
+        printf(" %02X", bytes[i]);
 }
 
 /* Builds the record; the answer is its length, 0 where the text was refused. */
@@ -70,7 +69,7 @@ static size_t build(size_t text_len)
     printf("record: %zu bytes for %zu bytes of text, terms %u", length, text_len, (unsigned)panel_terms(built));
     print_value(", greatest error ", panel_greatest_error(built));
     printf("\nfirst bytes:");
-    print_bytes(length < 11 ? length : 11);
+    print_bytes(record, length);
     printf("\n");
     return length;
 }
@@ -127,12 +126,19 @@ static void ask_least_bands(size_t text_len)
 static void compare_offers(size_t record_len, size_t text_len)
 {
     uint64_t better = panel_better_offer(text, text_len, FROM_CONTROL_ROOM, sizeof FROM_CONTROL_ROOM, record, record_len);
-    if (panel_winner(better) == PANEL_NO_OFFER) {
-        printf("no offer is for this text\n");
-        return;
+    switch (panel_winner(better)) {
+    case PANEL_FIRST_OFFER:
+        printf("better offer: the control room's,");
+        print_bytes(FROM_CONTROL_ROOM, panel_winner_bytes(better));
+        break;
+    case PANEL_SECOND_OFFER:
+        printf("better offer: the panel's own,");
+        print_bytes(record, panel_winner_bytes(better));
+        break;
+    default:
+        printf("better offer: none");
     }
-    const uint8_t *winner = panel_winner(better) == PANEL_FIRST_OFFER ? FROM_CONTROL_ROOM : record;
-    printf("better offer: number %u, %u bytes, from %02X on\n", (unsigned)panel_winner(better), (unsigned)panel_winner_bytes(better), winner[0]);
+    printf("\n");
 }
 
 /* The answer is the program's exit status. */

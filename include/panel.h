@@ -87,8 +87,9 @@ uint64_t panel_record_against_text(const uint8_t *record, uint64_t record_len, c
 uint64_t panel_least_band_of_text(const uint8_t *text, uint64_t text_len, uint64_t budget);
 
 /* Chooses between two records for one text. Each stands at the front of bytes of its own, perhaps with bytes behind it, and
- * ends where its count says. A candidate is a record that is not refused, has the text's length, band and rest value, and
- * keeps its band for the text's setpoints. Fewer terms win, then the smaller greatest error, then the first.
+ * ends where its count says; bytes that end before that, or before the count, hold no record. A candidate is a record that is
+ * not refused, has the text's length, band and rest value, and keeps its band for the text's setpoints. Fewer terms win, then
+ * the smaller greatest error, then the first.
  * Gives panel_winner and panel_winner_bytes: the winning record is so many bytes from `first` or from `second` on.
  * Refuses nothing: with no candidate, or a text that is refused, the winner is PANEL_NO_OFFER. */
 uint64_t panel_better_offer(const uint8_t *text, uint64_t text_len, const uint8_t *first, uint64_t first_len, const uint8_t *second, uint64_t second_len);

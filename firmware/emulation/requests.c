@@ -166,7 +166,7 @@ static void ask_least_band(uint64_t budget)
     ask(LEAST_BAND_OF_TEXT);
 }
 
-/* The record and another one as offers for the text, either of them first. */
+/* The record and another one as offers for the text, each of them first once. */
 static void ask_offers(const uint8_t *other, size_t other_len)
 {
     const uint8_t *own = record;
@@ -240,6 +240,8 @@ static void ask_benchmark(void)
             ask_slot(0);
             ask_slot(256);
         }
+        if (BENCHMARK[i].call == BETTER_OFFER)
+            ask_offers(second, second_len);
     }
 }
 

@@ -17,23 +17,38 @@ pub fn run() {
 fn some() {
     let one = ONE_TERM;
     let two = TWO_TERMS;
-    offer(b"one term and two", &one, &two);
-    offer(b"two terms and one", &two, &one);
-    offer(b"one term twice", &one, &one);
-    offer(b"one term cut short and two", &one[..10], &two);
+    choose(b"one term and two", &one, &two);
+    choose(b"two terms and one", &two, &one);
+    choose(b"one term twice", &one, &one);
+    choose(b"one term cut short and two", &one[..10], &two);
 }
 
 fn none() {
     let one = ONE_TERM;
     let other = ONE_TERM;
-    offer(b"no bytes", &one[..0], &other[..0]);
-    offer(b"bytes before a count", &one[..6], &other[..7]);
-    offer(b"bytes behind a record", &one[11..], &other[12..]);
+    choose(b"no bytes", &one[..0], &other[..0]);
+    choose(b"bytes before a count", &one[..6], &other[..7]);
+    choose(b"bytes behind a record", &one[11..], &other[12..]);
+    choose_for(
+        b"one term twice, for a text with a fault",
+        b"14,00\n0,25\n14,10\n13,90\n20,00\n19,50\nx\n",
+        &one,
+        &other,
+    );
 }
 
-fn offer<'a>(given: &[u8], first: &'a [u8], second: &'a [u8]) {
+fn choose<'a>(given: &[u8], first: &'a [u8], second: &'a [u8]) {
+    choose_for(
+        given,
+        b"14,00\n0,25\n14,10\n13,90\n20,00\n19,50\n",
+        first,
+        second,
+    );
+}
+
+fn choose_for<'a>(given: &[u8], text: &[u8], first: &'a [u8], second: &'a [u8]) {
     print_call(b"better offer of ", given);
     print(b":");
-    print_bytes(better_offer(b"14,00\n0,25\n14,10\n13,90\n20,00\n19,50\n", first, second));
+    print_bytes(better_offer(text, first, second));
     print(b"\n");
 }

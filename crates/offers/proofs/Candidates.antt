@@ -15,7 +15,7 @@ use Rattle.record_read.proofs.Accepted as Accepted
 use Rattle.record_check.specs.Checking.{Verdict}
 use Rattle.record_check.specs.Inner.{roomTerms, RecordJudgeable}
 use Rattle.record_check.proofs.Checks as Checks
-use Rattle.offers.specs.declared.Offer.the-variants.{Nothing, Record}
+use Rattle.offers.specs.declared.Offer.the-variants.{Nothing, One}
 use Rattle.offers.specs.Offers.{recordEnd, recordOf, isFor, candidateOffer, offerOf}
 use Rattle.offers.specs.Inner.{Profile, headerIsFor}
 
@@ -41,7 +41,7 @@ module _ (profile : List ℤ) (rest band : ℤ) {bytes : List ℕ} {answer : Hea
         not-kept verdict = sym (rw (Accepted.record-right read right, sym of-record ∙ own, ← Checks.judged profile read right verdict .kept-is))
 
         pub candidate : Verdict profile (answer .rest) (roomTerms answer nodes′ values′) (natAbs (answer .band)) true error slot
-            → Record (record { length = length bytes; terms = answer .count; error = error }) ≡ candidateOffer profile rest band bytes
+            → One (record { size = length bytes; terms = answer .count; error = error }) ≡ candidateOffer profile rest band bytes
         candidate verdict =
             let of-bytes = Checks.judged profile read right verdict in
             rw (Accepted.count-is read right, of-bytes .error-is) (sym (rw (Accepted.record-right read right, sym of-record ∙ own, ← of-bytes .kept-is)))

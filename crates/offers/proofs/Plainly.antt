@@ -33,16 +33,19 @@ module _ (text : List ℕ) (first second : Part) where
     where
       by-outcome : Outcome → HandedBack text first second part
       by-outcome (nothing is no-candidate) = record {
+        refused-is-empty = λ _. is;
         none-is-empty = λ _. is;
         empty-is-none = λ _. no-candidate;
         else-wins = λ some. absurd (some (ap (λ (it : Part). it .bytes) is));
       }
       by-outcome (of-first wins) = record {
+        refused-is-empty = λ wrong. absurd (omega (arith, wins .candidate .text-right));
         none-is-empty = λ none. absurd (none .first-none (wins .candidate));
         empty-is-none = λ empty. absurd (not-empty (wins .candidate) (sym (ap (λ (it : Part). it .bytes) (wins .part-is)) ∙ empty));
         else-wins = λ some. inl wins;
       }
       by-outcome (of-second wins) = record {
+        refused-is-empty = λ wrong. absurd (omega (arith, wins .candidate .text-right));
         none-is-empty = λ none. absurd (none .second-none (wins .candidate));
         empty-is-none = λ empty. absurd (not-empty (wins .candidate) (sym (ap (λ (it : Part). it .bytes) (wins .part-is)) ∙ empty));
         else-wins = λ some. inr wins;

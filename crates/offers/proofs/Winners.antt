@@ -17,10 +17,10 @@ use Rattle.record.proofs.Bounds.{few-terms}
 use Rattle.record_check.proofs.Verdicts.{kept-keeps, keeps-kept}
 use Rattle.offers.specs.declared.Candidate.{Candidate}
 use Rattle.offers.specs.declared.Offer.{Offer}
-use Rattle.offers.specs.declared.Offer.the-variants.{Nothing, Record}
+use Rattle.offers.specs.declared.Offer.the-variants.{Nothing, One}
 use Rattle.offers.specs.declared.Winner.{Winner}
 use Rattle.offers.specs.declared.Winner.the-variants.{Neither, First, Second}
-use Rattle.offers.specs.Offers.{recordEnd, hasRecord, recordOf, isFor, isCandidate, offerOf, isBetter, better, winner}
+use Rattle.offers.specs.Offers.{recordEnd, hasRecord, recordOf, isFor, isCandidate, offerOf, beats, better, winner}
 use Rattle.offers.specs.Plainly.{HasCandidate, errorOf, Beats, fewer-terms, smaller-error, NoCandidate}
 use Rattle.offers.proofs.Numbers.{is-same, same-is}
 
@@ -67,13 +67,13 @@ module _ (text buffer : List ℕ) where
   abbrev offer : Offer
   offer = offerOf (setpointsOf text) (restOf text) (bandOf text) buffer
 
-  -- where it has a candidate
+  -- what it offers where it has a candidate
   abbrev offered : Candidate
-  offered = record { length = recordEnd buffer; terms = countIn bytes; error = errorOf text buffer }
+  offered = record { size = recordEnd buffer; terms = countIn bytes; error = errorOf text buffer }
 
   data Offered : Type 0 where
     none : offer ≡ Nothing → (HasCandidate text buffer → ⊥) → Offered
-    some : offer ≡ Record offered → HasCandidate text buffer → Offered
+    some : offer ≡ One offered → HasCandidate text buffer → Offered
 
   offers : textRefusal text ≡ 0 → Offered
   offers right = by-tests (hasRecord buffer) (isCandidate (setpointsOf text) (restOf text) (bandOf text) bytes) refl refl
@@ -88,7 +88,7 @@ module _ (text buffer : List ℕ) where
 -- ---- which of two candidates is better
 
 module _ (text one other : List ℕ) where
-  test-beats : isBetter (offered text one) (offered text other) ≡ true → Beats text one other
+  test-beats : beats (offered text one) (offered text other) ≡ true → Beats text one other
   test-beats test = by-terms (ltb (countIn (recordOf one)) (countIn (recordOf other))) refl test
     where
       by-terms : (fewer : Bool) → ltb (countIn (recordOf one)) (countIn (recordOf other)) ≡ fewer
@@ -98,7 +98,7 @@ module _ (text one other : List ℕ) where
           let both = both-hold (eqb (countIn (recordOf one)) (countIn (recordOf other))) _ test in
           smaller-error (eqb-true (countIn (recordOf one)) (countIn (recordOf other)) (both .0)) (ltb-true (errorOf text one) (errorOf text other) (both .1))
 
-  beats-test : Beats text one other → isBetter (offered text one) (offered text other) ≡ true
+  beats-test : Beats text one other → beats (offered text one) (offered text other) ≡ true
   beats-test (fewer-terms fewer) = rw (lt-ltb (countIn (recordOf one)) (countIn (recordOf other)) fewer)
   beats-test (smaller-error same smaller) =
       rw (
@@ -109,10 +109,10 @@ module _ (text one other : List ℕ) where
 
 -- ---- the winner
 
--- bytes that lie in a buffer, and are no more than the longest record's
-pub record Within (count : ℕ) (buffer : List ℕ) : Type 0 where
-  pub inside : count ≤ length buffer
-  pub few : count ≤ 3332
+-- so many bytes lie in a buffer, and are no more than the longest record's
+pub record Within (size : ℕ) (buffer : List ℕ) : Type 0 where
+  pub inside : size ≤ length buffer
+  pub few : size ≤ 3332
 
 module _ (text first second : List ℕ) where
   pub data Won : Type 0 where
@@ -124,16 +124,16 @@ module _ (text first second : List ℕ) where
   won = by-text (textRefusal text) refl
     where
       by-offers : textRefusal text ≡ 0 → Offered text first → Offered text second → Won
-      by-offers right (none no-first is-first) (none no-second is-second) =
-          neither-won (rw (right, no-first, no-second)) (record { first-none = is-first; second-none = is-second })
-      by-offers right (none no-first is-first) (some a-second is-second) = second-won (rw (right, no-first, a-second)) is-second (λ it. absurd (is-first it))
-      by-offers right (some a-first is-first) (none no-second is-second) = first-won (rw (right, a-first, no-second)) is-first (λ it beats. is-second it)
-      by-offers right (some a-first is-first) (some a-second is-second) = by-test (isBetter (offered text second) (offered text first)) refl
+      by-offers right (none no-first not-first) (none no-second not-second) =
+          neither-won (rw (right, no-first, no-second)) (record { first-none = not-first; second-none = not-second })
+      by-offers right (none no-first not-first) (some a-second is-second) = second-won (rw (right, no-first, a-second)) is-second (λ it. absurd (not-first it))
+      by-offers right (some a-first is-first) (none no-second not-second) = first-won (rw (right, a-first, no-second)) is-first (λ it wins. not-second it)
+      by-offers right (some a-first is-first) (some a-second is-second) = by-test (beats (offered text second) (offered text first)) refl
         where
-          by-test : (wins : Bool) → isBetter (offered text second) (offered text first) ≡ wins → Won
+          by-test : (wins : Bool) → beats (offered text second) (offered text first) ≡ wins → Won
           by-test true wins = second-won (rw (right, a-first, a-second, wins)) is-second (λ _. test-beats text second first wins)
           by-test false wins =
-              first-won (rw (right, a-first, a-second, wins)) is-first (λ _ beats. absurd (mathlib.Core.Bool.false≢true (sym wins ∙ beats-test text second first beats)))
+              first-won (rw (right, a-first, a-second, wins)) is-first (λ _ beaten. absurd (mathlib.Core.Bool.false≢true (sym wins ∙ beats-test text second first beaten)))
 
       by-text : (refusal : ℕ) → textRefusal text ≡ refusal → Won
       by-text zero right = by-offers right (offers text first right) (offers text second right)
@@ -141,11 +141,11 @@ module _ (text first second : List ℕ) where
           let refused : (buffer : List ℕ) → HasCandidate text buffer → ⊥ = λ buffer it. absurd (omega (arith, wrong, it .text-right)) in
           neither-won (rw wrong) (record { first-none = refused first; second-none = refused second })
 
-  -- the winner's are such bytes
+  -- the winner's bytes lie in its buffer, and are no more than the longest record's
   abbrev WinnerWithin : Winner → Type 0
   WinnerWithin Neither = Unit
-  WinnerWithin (First count) = Within count first
-  WinnerWithin (Second count) = Within count second
+  WinnerWithin (First size) = Within size first
+  WinnerWithin (Second size) = Within size second
 
   winner-within : WinnerWithin (winner text first second)
   winner-within = by-winner won
@@ -156,10 +156,10 @@ module _ (text first second : List ℕ) where
       by-winner : Won → WinnerWithin (winner text first second)
       by-winner (neither-won is no-candidate) = subst WinnerWithin (sym is) tt
       by-winner (first-won is candidate not-beaten) = subst WinnerWithin (sym is) (of-candidate candidate)
-      by-winner (second-won is candidate beats) = subst WinnerWithin (sym is) (of-candidate candidate)
+      by-winner (second-won is candidate wins) = subst WinnerWithin (sym is) (of-candidate candidate)
 
-  pub first-within : {count : ℕ} → winner text first second ≡ First count → Within count first
+  pub first-within : {size : ℕ} → winner text first second ≡ First size → Within size first
   first-within is = subst WinnerWithin is winner-within
 
-  pub second-within : {count : ℕ} → winner text first second ≡ Second count → Within count second
+  pub second-within : {size : ℕ} → winner text first second ≡ Second size → Within size second
   second-within is = subst WinnerWithin is winner-within

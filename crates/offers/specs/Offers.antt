@@ -15,11 +15,11 @@ use Rattle.record.specs.Answers.{recordRefusal}
 use Rattle.record_check.specs.Checking.{kept}
 use Rattle.offers.specs.declared.Candidate.{Candidate}
 use Rattle.offers.specs.declared.Offer.{Offer}
-use Rattle.offers.specs.declared.Offer.the-variants.{Nothing, Record}
+use Rattle.offers.specs.declared.Offer.the-variants.{Nothing, One}
 use Rattle.offers.specs.declared.Winner.{Winner}
 use Rattle.offers.specs.declared.Winner.the-variants.{Neither, First, Second}
 
--- "its count says where it ends": the bytes of the record at the front of a buffer
+-- "its count says where it ends": how many bytes the record at the front of a buffer has
 abbrev pub recordEnd : List ℕ → ℕ
 recordEnd buffer = recordLength (countIn buffer)
 
@@ -47,11 +47,11 @@ abbrev pub isCandidate : List ℤ → ℤ → ℤ → List ℕ → Bool
 isCandidate profile rest band bytes =
     eqb (recordRefusal bytes) 0 && isFor profile rest band bytes && kept profile (restIn bytes) (termsIn bytes) (bandIn bytes)
 
--- what a record offers for a profile: its bytes, its terms and its greatest error where it is a candidate
+-- what a record offers for a profile where it is a candidate: how many bytes and terms it has, and its greatest error
 abbrev pub candidateOffer : List ℤ → ℤ → ℤ → List ℕ → Offer
 candidateOffer profile rest band bytes =
     cond (isCandidate profile rest band bytes)
-    (Record (record { length = length bytes; terms = countIn bytes; error = greatestError profile (restIn bytes) (termsIn bytes) }))
+    (One (record { size = length bytes; terms = countIn bytes; error = greatestError profile (restIn bytes) (termsIn bytes) }))
     Nothing
 
 -- what a buffer offers: what the record at its front does
@@ -59,15 +59,15 @@ abbrev pub offerOf : List ℤ → ℤ → ℤ → List ℕ → Offer
 offerOf profile rest band buffer = cond (hasRecord buffer) (candidateOffer profile rest band (recordOf buffer)) Nothing
 
 -- "Fewer terms wins, then the smaller greatest error"
-abbrev pub isBetter : Candidate → Candidate → Bool
-isBetter candidate other = ltb (candidate .terms) (other .terms) || (eqb (candidate .terms) (other .terms) && ltb (candidate .error) (other .error))
+abbrev pub beats : Candidate → Candidate → Bool
+beats candidate other = ltb (candidate .terms) (other .terms) || (eqb (candidate .terms) (other .terms) && ltb (candidate .error) (other .error))
 
 -- "then the first buffer"
 abbrev pub better : Offer → Offer → Winner
 better Nothing Nothing = Neither
-better Nothing (Record second) = Second (second .length)
-better (Record first) Nothing = First (first .length)
-better (Record first) (Record second) = cond (isBetter second first) (Second (second .length)) (First (first .length))
+better Nothing (One second) = Second (second .size)
+better (One first) Nothing = First (first .size)
+better (One first) (One second) = cond (beats second first) (Second (second .size)) (First (first .size))
 
 -- the winner of two buffers for a profile
 abbrev pub winnerFor : List ℤ → ℤ → ℤ → List ℕ → List ℕ → Winner
@@ -77,7 +77,7 @@ winnerFor profile rest band first second = better (offerOf profile rest band fir
 abbrev pub winner : List ℕ → List ℕ → List ℕ → Winner
 winner text first second = granted (textRefusal text) (winnerFor (setpointsOf text) (restOf text) (bandOf text) first second) Neither
 
--- a part of lent memory: where it begins, and its bytes
+-- a part of lent memory: where it begins, a block and an offset in it, and its bytes
 pub record Part : Type 0 where
   pub place : ℕ × ℕ
   pub bytes : List ℕ
@@ -88,13 +88,13 @@ partOf reference = record { place = ptr reference; bytes = now reference }
 
 -- so many bytes at the start of a part
 abbrev pub front : ℕ → Part → Part
-front count part = record { place = part .place; bytes = take count (part .bytes) }
+front size part = record { place = part .place; bytes = take size (part .bytes) }
 
 -- "the winning record's bytes, as part of the buffer they came in"; with no winner "the part is empty, at the start of the first buffer"
 abbrev pub winningPart : Winner → Part → Part → Part
 winningPart Neither first second = front 0 first
-winningPart (First count) first second = front count first
-winningPart (Second count) first second = front count second
+winningPart (First size) first second = front size first
+winningPart (Second size) first second = front size second
 
 -- the part that is handed back
 abbrev pub betterOffer : List ℕ → Part → Part → Part

@@ -50,6 +50,7 @@ pub record NoCandidate (text first second : List ℕ) : Type 0 where
 
 -- "With no candidate or a refused text, and only then, the part is empty, at the start of the first buffer"; else it is the winning record's
 pub record HandedBack (text : List ℕ) (first second part : Part) : Type 0 where
+  pub refused-is-empty : 0 < textRefusal text → part ≡ front 0 first
   pub none-is-empty : NoCandidate text (first .bytes) (second .bytes) → part ≡ front 0 first
   pub empty-is-none : part .bytes ≡ [] → NoCandidate text (first .bytes) (second .bytes)
   pub else-wins : (part .bytes ≡ [] → ⊥) → FirstWins text first second part ⊎ SecondWins text first second part

@@ -7,7 +7,7 @@ use record_check::judge_record;
 use record_read::HeaderAnswer;
 use record_read::read_into_room;
 ghost use mathlib.Core.Path.{_≡_};
-ghost use Rattle.offers.specs.Offers.{candidateOffer, offerOf, isBetter, better, winnerFor, winner, partOf, betterOffer};
+ghost use Rattle.offers.specs.Offers.{candidateOffer, offerOf, beats, better, winnerFor, winner, partOf, betterOffer};
 ghost use Rattle.offers.specs.Inner.{Profile, headerIsFor};
 
 // The winning record's bytes, as part of the buffer that they came in. Where no record wins the part is empty, at the start of the first buffer.
@@ -17,12 +17,12 @@ pub fn better_offer<'a>(text: &[u8], first: &'a [u8], second: &'a [u8]) -> &'a [
     let winner = choose_offer(text, first, second);
     match winner {
         Winner::Neither => &first[..0],
-        Winner::First(length) => &first[..length],
-        Winner::Second(length) => &second[..length],
+        Winner::First(size) => &first[..size],
+        Winner::Second(size) => &second[..size],
     }
 }
 
-// Which buffer's record wins, with the bytes of that record.
+// Which buffer's record wins, and how many bytes it has.
 pub enum Winner {
     Neither,
     First(usize),
@@ -51,9 +51,9 @@ fn choose_for(setpoints: &[i16], rest: i32, band: i32, first: &[u8], second: &[u
     choose(offer, read_offer(setpoints, rest, band, second))
 }
 
-// A candidate: the bytes of its record, its terms and its greatest error.
+// A candidate: how many bytes its record has, how many terms, and its greatest error.
 pub struct Candidate {
-    pub length: usize,
+    pub size: usize,
     pub terms: usize,
     pub error: u16,
 }
@@ -61,7 +61,7 @@ pub struct Candidate {
 // What a buffer offers.
 pub enum Offer {
     Nothing,
-    Record(Candidate),
+    One(Candidate),
 }
 
 // The offer of a buffer, whose record ends where its count says.
@@ -72,11 +72,11 @@ fn read_offer(setpoints: &[i16], rest: i32, band: i32, buffer: &[u8]) -> Offer
     if buffer.len() < 7 {
         return Offer::Nothing;
     }
-    let length = record_length(places().count.read(BitPlace::COUNT, buffer) as usize);
-    if buffer.len() < length {
+    let end = record_length(places().count.read(BitPlace::COUNT, buffer) as usize);
+    if buffer.len() < end {
         return Offer::Nothing;
     }
-    judge_offer(setpoints, rest, band, &buffer[..length])
+    judge_offer(setpoints, rest, band, &buffer[..end])
 }
 
 // The offer of a record's bytes: a candidate where they read without refusal, have the profile's length, band and rest value, and are kept.
@@ -93,8 +93,8 @@ fn judge_offer(setpoints: &[i16], rest: i32, band: i32, bytes: &[u8]) -> Offer
     if is_for(header, setpoints.len(), rest, band) {
         let verdict = judge_record(setpoints, header, &nodes, &values);
         if verdict.kept {
-            return Offer::Record(Candidate {
-                length: bytes.len(),
+            return Offer::One(Candidate {
+                size: bytes.len(),
                 terms: header.count,
                 error: verdict.error,
             });
@@ -123,15 +123,15 @@ fn choose(first: Offer, second: Offer) -> Winner
     match first {
         Offer::Nothing => match second {
             Offer::Nothing => Winner::Neither,
-            Offer::Record(candidate) => Winner::Second(candidate.length),
+            Offer::One(candidate) => Winner::Second(candidate.size),
         },
-        Offer::Record(candidate) => match second {
-            Offer::Nothing => Winner::First(candidate.length),
-            Offer::Record(other) => {
+        Offer::One(candidate) => match second {
+            Offer::Nothing => Winner::First(candidate.size),
+            Offer::One(other) => {
                 if beats(other, candidate) {
-                    return Winner::Second(other.length);
+                    return Winner::Second(other.size);
                 }
-                Winner::First(candidate.length)
+                Winner::First(candidate.size)
             }
         },
     }
@@ -139,7 +139,7 @@ fn choose(first: Offer, second: Offer) -> Winner
 
 // Whether a candidate beats another: fewer terms, then the smaller greatest error.
 fn beats(candidate: Candidate, other: Candidate) -> bool
-    ensures { λ r. ⌜ r ≡ isBetter candidate other ⌝ }
+    ensures { λ r. ⌜ r ≡ beats candidate other ⌝ }
 {
     if candidate.terms == other.terms {
         return candidate.error < other.error;

@@ -69,11 +69,12 @@ pub record LeastBandOfText (text : List ℕ) (budget number : ℕ) : Type 0 wher
   pub least : leastBandOfTextRefusal text budget ≡ 0 → LeastBand (setpointsOf text) (restOf text) budget band
   pub result-is : number ≡ result (leastBandOfTextRefusal text budget) band 0 0
 
--- the better of two offers, which refuses nothing: which buffer's record wins, 0 for none, the bytes of that record, 0
+-- a winner, which is no refusal: which buffer's record wins, 0 for none, how many bytes it has, 0
 abbrev pub winnerResult : Winner → ℕ
 winnerResult Neither = packedFields 0 0 0 0
-winnerResult (First bytes) = packedFields 0 1 bytes 0
-winnerResult (Second bytes) = packedFields 0 2 bytes 0
+winnerResult (First size) = packedFields 0 1 size 0
+winnerResult (Second size) = packedFields 0 2 size 0
 
+-- the better of two offers for a text
 abbrev pub betterOfferResult : List ℕ → List ℕ → List ℕ → ℕ
 betterOfferResult text first second = winnerResult (winner text first second)

@@ -105,7 +105,7 @@ pub extern "C" fn panel_least_band_of_text(text: &[u8], budget: u64) -> u64
     pack(0, answer.band as u64, 0, 0)
 }
 
-// The better of two offers for a text: which buffer's record wins, 0 for none, and the bytes of that record. Nothing is refused.
+// The better of two offers for a text: which buffer's record wins, 0 for none, and how many bytes it has. Nothing is refused.
 #[no_mangle]
 pub extern "C" fn panel_better_offer(text: &[u8], first: &[u8], second: &[u8]) -> u64
     ensures { λ r. ⌜ r ≡ betterOfferResult (now (text .entry)) (now (first .entry)) (now (second .entry)) ⌝ }
@@ -113,8 +113,8 @@ pub extern "C" fn panel_better_offer(text: &[u8], first: &[u8], second: &[u8]) -
     let winner = choose_offer(text, first, second);
     match winner {
         Winner::Neither => pack(0, 0, 0, 0),
-        Winner::First(length) => pack(0, 1, length as u64, 0),
-        Winner::Second(length) => pack(0, 2, length as u64, 0),
+        Winner::First(size) => pack(0, 1, size as u64, 0),
+        Winner::Second(size) => pack(0, 2, size as u64, 0),
     }
 }
 

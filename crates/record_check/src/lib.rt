@@ -76,13 +76,13 @@ pub fn judge_record(
     requires { ⌜ RecordJudgeable (now setpoints) header (now nodes) (now values) ⌝ }
     ensures { λ r. ⌜ (r .refusal ≡ 0) × Verdict (now (setpoints .entry)) (header .rest) (roomTerms header (now (nodes .entry)) (now (values .entry))) (natAbs (header .band)) (r .kept) (r .error) (r .slot) ⌝ }
 {
-    let count = header.count;
+    let terms = header.count;
     judge(
         setpoints,
         header.band as u32,
         header.rest as i16,
-        &nodes[..count],
-        &values[..count],
+        &nodes[..terms],
+        &values[..terms],
     )
 }
 

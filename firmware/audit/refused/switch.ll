@@ -8,7 +8,7 @@ start:
   %r0 = alloca [16 x i8], align 8
   call void @llvm.memmove.p0.p0.i64(ptr %r0, ptr %a0, i64 16, i1 false)
   %r1 = load i8, ptr %r0, align 1, !noundef !2
-  switch i128 %r1, label %noarm.3 [
+  switch i8 1, label %noarm.3 [
     i8 0, label %arm.1
     i8 1, label %arm.2
   ]

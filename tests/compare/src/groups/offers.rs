@@ -9,7 +9,7 @@ use crate::inputs::changes::Change;
 use crate::inputs::profiles::{SHAPES, any_profile, away, profile, record};
 use crate::inputs::random::Random;
 
-/// Document 01's text of one firing with its record of one term, and a record of two terms that is kept with the same error.
+/// Document 01's text of one firing, with its record of one term.
 const TEXT: &[u8] = b"14,00\n0,25\n14,10\n13,90\n20,00\n19,50\n";
 const ONE_TERM: [u8; 11] = [0x10, 0x18, 0x00, 0xC8, 0x2B, 0xC0, 0x02, 0x01, 0x83, 0xDB, 0x80];
 
@@ -49,13 +49,22 @@ fn by_name(comparison: &mut Comparison) {
         let answer = comparison.better_offer(TEXT, first, second);
         comparison.same("two offers for document 01's text", &name, gives, answer);
     }
+    for behind in [b"x\n".as_slice(), b"\n", b"200,01\n"] {
+        let answer = comparison.better_offer(&[TEXT, behind].concat(), &ONE_TERM, &ONE_TERM);
+        comparison.same(
+            "two offers for document 01's text with a fault behind it",
+            &behind.escape_ascii(),
+            [0; 4],
+            answer,
+        );
+    }
     for end in 0..TEXT.len() {
         let answer = comparison.better_offer(&TEXT[..end], &ONE_TERM, &ONE_TERM);
         comparison.same("two offers for a front part of document 01's text", &end, [0; 4], answer);
     }
 }
 
-/// Every two of many buffers, in either order, for a text that is accepted and for one that is not.
+/// Every two of many buffers, in either order; and each beside the record that is built, for texts that are refused after their last good line.
 fn every_pair(comparison: &mut Comparison, random: &mut Random, profile: &Profile) {
     let text = write_text(profile);
     let buffers = buffers(comparison, random, profile, &text);
@@ -63,11 +72,13 @@ fn every_pair(comparison: &mut Comparison, random: &mut Random, profile: &Profil
         for second in &buffers {
             comparison.better_offer(&text, first, second);
         }
-        comparison.better_offer(&text[..text.len() - 1], first, &buffers[0]);
+        for behind in [b"x".as_slice(), b"\n", b"200,01\n", b"14,00"] {
+            comparison.better_offer(&[text.as_slice(), behind].concat(), first, &buffers[0]);
+        }
     }
 }
 
-/// Candidates for a profile, each with bytes behind it too; the same damaged; and records for other profiles.
+/// Records for a profile, most of them candidates, each with bytes behind it too; the same damaged; and records for other profiles.
 fn buffers(comparison: &mut Comparison, random: &mut Random, profile: &Profile, text: &[u8]) -> Vec<Vec<u8>> {
     let built = comparison.text_to_record(text, byte_count(1_023)).1.unwrap_or_default();
     let leaves = [0, profile.band / 2, profile.band, profile.band + 1].map(|error| with_leaves(profile, error));
@@ -107,14 +118,14 @@ fn with_leaves(profile: &Profile, error: i32) -> Record {
     Record { slots: profile.setpoints.len(), band: profile.band, rest: profile.rest, terms }
 }
 
-/// One term more, at the root, or the same where it has one.
+/// The rest value at the root: one term more, except where the root is the only leaf.
 fn with_root(record: &Record) -> Record {
     let root = Term { node: 1, value: record.rest };
     let others = record.terms.iter().copied().filter(|term| term.node != root.node);
     Record { terms: [root].into_iter().chain(others).collect(), ..record.clone() }
 }
 
-/// Buffers of up to 23 bytes of any content that begin like a record, beside one that wins.
+/// Buffers of up to 23 bytes of any content that begin like a record, beside that record and beside themselves.
 fn chance_bytes(comparison: &mut Comparison, random: &mut Random) {
     let mut any: Vec<u8> = (0..random.below(24)).map(|_| random.next() as u8).collect();
     let alike = random.below(any.len() + 1).min(ONE_TERM.len());
