@@ -14,7 +14,7 @@ static const char *const CALL_NAMES[CALLS] = {
     "text_to_record", "record_slot", "record_against_text", "least_band_of_text", "better_offer"
 };
 
-/* A row of the benchmark: its records are made elsewhere, or each is the one built of the text of an earlier row. */
+/* A row of the benchmark: its records are made elsewhere, or both are the one built of the text of an earlier row. */
 struct row {
     const char *name;
     enum call call;

@@ -20,7 +20,7 @@ use Rattle.offers.specs.declared.Offer.{Offer}
 use Rattle.offers.specs.declared.Offer.the-variants.{Nothing, One}
 use Rattle.offers.specs.declared.Winner.{Winner}
 use Rattle.offers.specs.declared.Winner.the-variants.{Neither, First, Second}
-use Rattle.offers.specs.Offers.{recordEnd, hasRecord, recordOf, isFor, isCandidate, offerOf, beats, better, winner}
+use Rattle.offers.specs.Offers.{recordEnd, hasRecord, recordOf, isFor, isCandidate, offerOf, beats, winner}
 use Rattle.offers.specs.Plainly.{HasCandidate, errorOf, Beats, fewer-terms, smaller-error, NoCandidate}
 use Rattle.offers.proofs.Numbers.{is-same, same-is}
 

@@ -6,8 +6,8 @@ use crate::document::synopsis::Term;
 use crate::document::text::{Profile, write_text};
 
 /// "One firing in full", and its record.
-const FIRING: &[u8] = b"14,00\n0,25\n14,10\n13,90\n20,00\n19,50\n";
-const FIRING_RECORD: [u8; 11] = [0x10, 0x18, 0x00, 0xC8, 0x2B, 0xC0, 0x02, 0x01, 0x83, 0xDB, 0x80];
+pub const FIRING: &[u8] = b"14,00\n0,25\n14,10\n13,90\n20,00\n19,50\n";
+pub const FIRING_RECORD: [u8; 11] = [0x10, 0x18, 0x00, 0xC8, 0x2B, 0xC0, 0x02, 0x01, 0x83, 0xDB, 0x80];
 
 pub fn run(comparison: &mut Comparison) {
     let mut instances = Instances(comparison);

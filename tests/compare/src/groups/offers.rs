@@ -1,6 +1,7 @@
 //! Two offers for one text: one, two or no candidates, equal ones, bytes behind them, short buffers, counts that point past the
 //! end, records that read and are for another profile, and texts that are refused.
 
+use super::instances::{FIRING, FIRING_RECORD};
 use crate::comparison::Comparison;
 use crate::document::record::{Record, byte_count};
 use crate::document::synopsis::{Term, padded};
@@ -8,10 +9,6 @@ use crate::document::text::{Profile, write_text};
 use crate::inputs::changes::Change;
 use crate::inputs::profiles::{SHAPES, any_profile, away, profile, record};
 use crate::inputs::random::Random;
-
-/// Document 01's text of one firing, with its record of one term.
-const TEXT: &[u8] = b"14,00\n0,25\n14,10\n13,90\n20,00\n19,50\n";
-const ONE_TERM: [u8; 11] = [0x10, 0x18, 0x00, 0xC8, 0x2B, 0xC0, 0x02, 0x01, 0x83, 0xDB, 0x80];
 
 pub fn run(comparison: &mut Comparison) {
     let mut random = Random::new(7);
@@ -34,23 +31,23 @@ pub fn run(comparison: &mut Comparison) {
 fn by_name(comparison: &mut Comparison) {
     let terms = vec![Term { node: 2, value: 1400 }, Term { node: 3, value: 1975 }];
     let two_terms = Record { slots: 4, band: 25, rest: 1400, terms }.bytes();
-    let behind = [ONE_TERM.as_slice(), &[0x10, 0xFF, 0x00]].concat();
+    let behind = [FIRING_RECORD.as_slice(), &[0x10, 0xFF, 0x00]].concat();
     let cases: [(&str, &[u8], &[u8], [u16; 4]); 8] = [
-        ("fewer terms, in the first buffer", &ONE_TERM, &two_terms, [0, 1, 11, 0]),
-        ("fewer terms, in the second buffer", &two_terms, &ONE_TERM, [0, 2, 11, 0]),
-        ("equal offers", &ONE_TERM, &ONE_TERM, [0, 1, 11, 0]),
-        ("equal offers, bytes behind the first", &behind, &ONE_TERM, [0, 1, 11, 0]),
+        ("fewer terms, in the first buffer", &FIRING_RECORD, &two_terms, [0, 1, 11, 0]),
+        ("fewer terms, in the second buffer", &two_terms, &FIRING_RECORD, [0, 2, 11, 0]),
+        ("equal offers", &FIRING_RECORD, &FIRING_RECORD, [0, 1, 11, 0]),
+        ("equal offers, bytes behind the first", &behind, &FIRING_RECORD, [0, 1, 11, 0]),
         ("bytes behind the only candidate", &[], &behind, [0, 2, 11, 0]),
-        ("a record that its buffer cuts short", &ONE_TERM[..10], &two_terms, [0, 2, 14, 0]),
-        ("a buffer that ends before its count", &ONE_TERM[..6], &ONE_TERM[..7], [0, 0, 0, 0]),
+        ("a record that its buffer cuts short", &FIRING_RECORD[..10], &two_terms, [0, 2, 14, 0]),
+        ("a buffer that ends before its count", &FIRING_RECORD[..6], &FIRING_RECORD[..7], [0, 0, 0, 0]),
         ("no bytes", &[], &[], [0, 0, 0, 0]),
     ];
     for (name, first, second, gives) in cases {
-        let answer = comparison.better_offer(TEXT, first, second);
+        let answer = comparison.better_offer(FIRING, first, second);
         comparison.same("two offers for document 01's text", &name, gives, answer);
     }
     for behind in [b"x\n".as_slice(), b"\n", b"200,01\n"] {
-        let answer = comparison.better_offer(&[TEXT, behind].concat(), &ONE_TERM, &ONE_TERM);
+        let answer = comparison.better_offer(&[FIRING, behind].concat(), &FIRING_RECORD, &FIRING_RECORD);
         comparison.same(
             "two offers for document 01's text with a fault behind it",
             &behind.escape_ascii(),
@@ -58,8 +55,8 @@ fn by_name(comparison: &mut Comparison) {
             answer,
         );
     }
-    for end in 0..TEXT.len() {
-        let answer = comparison.better_offer(&TEXT[..end], &ONE_TERM, &ONE_TERM);
+    for end in 0..FIRING.len() {
+        let answer = comparison.better_offer(&FIRING[..end], &FIRING_RECORD, &FIRING_RECORD);
         comparison.same("two offers for a front part of document 01's text", &end, [0; 4], answer);
     }
 }
@@ -128,9 +125,9 @@ fn with_root(record: &Record) -> Record {
 /// Buffers of up to 23 bytes of any content that begin like a record, beside that record and beside themselves.
 fn chance_bytes(comparison: &mut Comparison, random: &mut Random) {
     let mut any: Vec<u8> = (0..random.below(24)).map(|_| random.next() as u8).collect();
-    let alike = random.below(any.len() + 1).min(ONE_TERM.len());
-    any[..alike].copy_from_slice(&ONE_TERM[..alike]);
-    comparison.better_offer(TEXT, &any, &ONE_TERM);
-    comparison.better_offer(TEXT, &ONE_TERM, &any);
-    comparison.better_offer(TEXT, &any, &any);
+    let alike = random.below(any.len() + 1).min(FIRING_RECORD.len());
+    any[..alike].copy_from_slice(&FIRING_RECORD[..alike]);
+    comparison.better_offer(FIRING, &any, &FIRING_RECORD);
+    comparison.better_offer(FIRING, &FIRING_RECORD, &any);
+    comparison.better_offer(FIRING, &any, &any);
 }

@@ -1,5 +1,6 @@
 //! The program `fire` on texts of every kind: refused by each number, and printed in full where they are not.
 
+use super::instances::FIRING;
 use crate::comparison::Comparison;
 use crate::document::SLOT_LIMIT;
 use crate::document::text::{Profile, write_text};
@@ -8,7 +9,6 @@ use crate::inputs::random::Random;
 use crate::inputs::typed::{NO_NUMBERS, OUT_OF_RANGE, lines, text};
 
 /// What document 01 has `fire` print for its own text, to the letter.
-const FIRING: &[u8] = b"14,00\n0,25\n14,10\n13,90\n20,00\n19,50\n";
 const FIRING_PRINTED: &str = "4 1 0,25 0,25\nterm 3 19,75\nslot 0 14,00\nslot 1 14,00\nslot 2 19,75\nslot 3 19,75\n";
 
 /// The longest text that is accepted: 514 lines of seven characters and the byte 10.
