@@ -1,7 +1,9 @@
 /* The burner panel's five calls for C firmware: profile text to record, one slot of a record,
  * record against text, least band of a text, the better of two offers.
  *
- * A value (setpoint, rest value, band, error) is a whole number of hundredths: 14,50 is 1450.
+ * A value (setpoint, rest value, band, error) is a whole number of hundredths: 14,50 is 1450. A number in a text may have a
+ * third digit after a comma, which is rounded half away from zero: 14,505 is 1451 and -0,005 is -1. After a point three digits
+ * are refused. The limits below hold for the rounded value.
  *
  * Every call returns four fields of 16 bits in one number; the functions below take them out.
  * The lowest field is the refusal's number, 0 for success. A refusal leaves the other fields 0
@@ -35,8 +37,8 @@ extern "C" {
 #define PANEL_MOST_SLOTS 512
 #define PANEL_MOST_BUDGET 1023
 
-/* The bytes of the longest line: seven characters, as -200,00, and the line end. */
-#define PANEL_LONGEST_LINE 8
+/* The bytes of the longest line: eight characters, as -200,004, and the line end. */
+#define PANEL_LONGEST_LINE 9
 
 /* A longer text is refused: a line for the rest value, one for the band, and one a setpoint. */
 #define PANEL_MOST_TEXT_BYTES (PANEL_LONGEST_LINE * (2 + PANEL_MOST_SLOTS))

@@ -1,4 +1,4 @@
--- The bytes that numbers are written with, and the answer where bytes begin with no number.
+-- The bytes that numbers are written with, and the answers where there is no byte or bytes begin with no number.
 use mathlib.Core.Path.{_≡_, refl}
 use mathlib.Core.Bool.{true, false, _||_, or-true}
 use mathlib.Core.List.{List}
@@ -6,9 +6,9 @@ use mathlib.Core.Option.{Option, none}
 use Prim.Native.Nat.{ℕ, _+_, _≤_}
 use native.Mathlib.Omega.{arith}
 use lib.Dec.{eqb}
-use lib.ListN.{length, getD, take}
+use lib.ListN.{length, getD, take, List·getD-eq-default}
 use Rattle.decimal.specs.Number.{isDigit, isMark}
-use Rattle.decimal.specs.Inner.{inNumber, FrontRead}
+use Rattle.decimal.specs.Inner.{inNumber, FrontRead, DigitRead}
 
 pub digit-in : (byte : ℕ) → isDigit byte ≡ true → inNumber byte ≡ true
 digit-in byte a-digit = rw a-digit
@@ -26,6 +26,9 @@ not-both byte is-in is-out = let broken : _≡_ {A = ℕ} 0 1 = cc in omega arit
 -- where there is no byte, there is no digit
 pub no-byte : isDigit 0 ≡ true → ⊥
 no-byte a-digit = not-both 0 (digit-in 0 a-digit) refl
+
+pub no-digit-there : (bytes : List ℕ) (at : ℕ) → length bytes ≤ at → DigitRead (getD bytes at 0) 10
+no-digit-there bytes at past = rw (List·getD-eq-default bytes 0 {n = at} past) (record { digit-is = λ small. absurd (omega arith); no-digit = λ large. refl })
 
 pub none-in-front : {A : Type 0} {meant : List ℕ → Option A} (bytes : List ℕ) (number : A)
     → ((place : ℕ) → place ≤ length bytes → inNumber (getD bytes place 0) ≡ false → meant (take place bytes) ≡ none) → FrontRead meant bytes number (length bytes + 1)

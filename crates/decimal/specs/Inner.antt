@@ -5,8 +5,8 @@ use mathlib.Core.List.{List, _++_}
 use mathlib.Core.Option.{Option, none, some}
 use Prim.Native.Nat.{ℕ, _+_, _*_, _≤_, _<_}
 use lib.Dec.{eqb}
-use lib.ListN.{length, getD, take, drop}
-use Rattle.decimal.specs.Number.{isDigit, digit, isMark, leadingDigits, decimal, fraction, added, unsigned}
+use lib.ListN.{length, getD, take}
+use Rattle.decimal.specs.Number.{isDigit, digit, isMark, mostDigits, leadingDigits, decimal, fraction, added}
 
 -- whether numbers are written with a byte
 abbrev pub inNumber : ℕ → Bool
@@ -22,7 +22,7 @@ pub record FrontRead {A : Type 0} (meant : List ℕ → Option A) (bytes : List 
 -- the same without a sign
 pub record PartRead (meant : List ℕ → Option ℕ) (bytes : List ℕ) (number count : ℕ) : Type 0 where
   pub front : FrontRead meant bytes number count
-  pub at-most : number ≤ 99999
+  pub at-most : number ≤ 100000
 
 -- the first digits of a field, three at the most: how many, and the number they write
 pub record UnitsRead (field : List ℕ) (count units : ℕ) : Type 0 where
@@ -35,14 +35,21 @@ pub record UnitsRead (field : List ℕ) (count units : ℕ) : Type 0 where
 abbrev pub withUnits : ℕ → List ℕ → Option ℕ
 withUnits units field = added (100 * units) (fraction field)
 
--- what is read of any bytes that begin with units of `count` digits and go on as `rest`
-abbrev pub AfterUnits : ℕ → List ℕ → ℕ → ℕ → ℕ → Type 0
-AfterUnits units rest count number taken = (bytes : List ℕ) → UnitsRead bytes count units → rest ≡ drop count bytes → PartRead unsigned bytes number taken
+-- bytes that begin with a mark, and how many digits may follow it
+pub record Marked (bytes : List ℕ) (most : ℕ) : Type 0 where
+  pub is-mark : isMark (getD bytes 0 0) ≡ true
+  pub most-is : most ≡ mostDigits (getD bytes 0 0)
 
 -- the number that a digit stands for, and 10 or more for any other byte
 pub record DigitRead (byte number : ℕ) : Type 0 where
   pub digit-is : number < 10 → (isDigit byte ≡ true) × (number ≡ digit byte)
   pub no-digit : 10 ≤ number → isDigit byte ≡ false
+
+-- the three digits after a mark
+pub record DigitsRead (bytes : List ℕ) (tenths hundredths thousandths : ℕ) : Type 0 where
+  pub first : DigitRead (getD bytes 1 0) tenths
+  pub second : DigitRead (getD bytes 2 0) hundredths
+  pub third : DigitRead (getD bytes 3 0) thousandths
 
 -- the bytes of a text of `count` bytes that stands at the front of an array
 abbrev pub held : List ℕ → ℕ → List ℕ

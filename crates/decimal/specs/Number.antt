@@ -1,8 +1,8 @@
--- What a field of bytes reads as: document 01, "Setpoints as typed". For the auditor.
+-- What a field of bytes reads as: document 01, "Setpoints as typed", with document 02's F-2. For the auditor.
 use mathlib.Core.Bool.{Bool, cond, _&&_, _||_}
 use mathlib.Core.List.{List, [], _∷_}
 use mathlib.Core.Option.{Option, none, some}
-use Prim.Native.Nat.{ℕ, zero, suc, _+_, _*_, _-_}
+use Prim.Native.Nat.{ℕ, zero, suc, _+_, _*_, _-_, _/_}
 use lib.Dec.{leb, eqb}
 use lib.IntN.{ℤ, pos, negℤ}
 use lib.ListN.{length, drop}
@@ -19,9 +19,13 @@ digit byte = byte - 48
 abbrev pub isMark : ℕ → Bool
 isMark byte = eqb byte 44 || eqb byte 46
 
--- the bytes of the longest number: a minus, three digits, a mark and two digits
+-- F-2, "After a comma, three digits are now allowed", "After a point three digits stay a fault": how many digits may follow a mark
+abbrev pub mostDigits : ℕ → ℕ
+mostDigits mark = cond (eqb mark 44) 3 2
+
+-- the bytes of the longest number: a minus, three digits, a comma and three digits
 abbrev pub longestNumber : ℕ
-longestNumber = 1 + 3 + 1 + 2
+longestNumber = 1 + 3 + 1 + 3
 
 -- the digits that a field begins with, `most` of them at the most
 unfoldable pub leadingDigits : ℕ → List ℕ → List ℕ
@@ -34,17 +38,22 @@ unfoldable pub decimal : ℕ → List ℕ → ℕ
 decimal before [] = before
 decimal before (byte ∷ digits) = decimal (10 * before + digit byte) digits
 
--- "one or two digits" after the mark, in hundredths: "One digit after the mark is tenths"
+-- F-2, "the third is rounded half away from zero": thousandths without their sign, in hundredths
+abbrev pub rounded : ℕ → ℕ
+rounded thousandths = (thousandths + 5) / 10
+
+-- the digits after a mark, in hundredths: "One digit after the mark is tenths"
 abbrev pub hundredths : List ℕ → Option ℕ
 hundredths [] = none
-hundredths (tenths ∷ []) = cond (isDigit tenths) (some (10 * digit tenths)) none
-hundredths (tenths ∷ rest ∷ []) = cond (isDigit tenths && isDigit rest) (some (10 * digit tenths + digit rest)) none
-hundredths (tenths ∷ rest ∷ more ∷ field) = none
+hundredths (first ∷ []) = cond (isDigit first) (some (10 * digit first)) none
+hundredths (first ∷ second ∷ []) = cond (isDigit first && isDigit second) (some (10 * digit first + digit second)) none
+hundredths (first ∷ second ∷ third ∷ []) = cond (isDigit first && isDigit second && isDigit third) (some (rounded (100 * digit first + 10 * digit second + digit third))) none
+hundredths (first ∷ second ∷ third ∷ fourth ∷ field) = none
 
--- what follows the units: nothing, or "a mark and one or two digits"
+-- what follows the units: nothing, "a mark and one or two digits", or a comma and three
 abbrev pub fraction : List ℕ → Option ℕ
 fraction [] = some 0
-fraction (byte ∷ field) = cond (isMark byte) (hundredths field) none
+fraction (byte ∷ field) = cond (isMark byte && leb (length field) (mostDigits byte)) (hundredths field) none
 
 -- whole hundredths and a part of one unit, where there is such a part
 abbrev pub added : ℕ → Option ℕ → Option ℕ

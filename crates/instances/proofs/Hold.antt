@@ -32,6 +32,10 @@ starred-hold =
     and refl
     and refl
     and refl
+    and refl
+    and refl
+    and refl
+    and refl
     and row-builds five-full (omega arith) refl refl (λ positive. omega arith)
     and row-builds five-full (omega arith) refl refl (λ positive. omega arith)
     and row-builds hundreds-full (omega arith) refl refl (λ positive. omega arith)

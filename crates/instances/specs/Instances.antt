@@ -1,4 +1,4 @@
--- Document 01's starred instances, as one table. For the auditor. `proofs/Hold.antt` proves that every one holds.
+-- Document 01's starred instances, and those of document 02's F-2 with its fault after a point, as one table. For the auditor. `proofs/Hold.antt` proves that every one holds.
 use mathlib.Core.Path.{_≡_}
 use mathlib.Core.List.{List, [], _∷_}
 use mathlib.Core.Option.{some}
@@ -64,6 +64,11 @@ starred =
     ∷ gives (49 ∷ 52 ∷ []) (pos 1400)
     ∷ gives (45 ∷ 48 ∷ 44 ∷ 48 ∷ 53 ∷ []) (negsuc 4)
     ∷ refused (49 ∷ 52 ∷ 44 ∷ []) 1
+    -- F-2: the fields `14,505`, `-0,005`, `999,995` and `14.505`
+    ∷ gives (49 ∷ 52 ∷ 44 ∷ 53 ∷ 48 ∷ 53 ∷ []) (pos 1451)
+    ∷ gives (45 ∷ 48 ∷ 44 ∷ 48 ∷ 48 ∷ 53 ∷ []) (negsuc 0)
+    ∷ gives (57 ∷ 57 ∷ 57 ∷ 44 ∷ 57 ∷ 57 ∷ 53 ∷ []) (pos 100000)
+    ∷ refused (49 ∷ 52 ∷ 46 ∷ 53 ∷ 48 ∷ 53 ∷ []) 1
     -- "one slot 5, rest 0, band 5 / 4": "0 terms, error 5 / 1 term, error 0"
     ∷ builds five (pos 0) 5 0 5
     ∷ builds five (pos 0) 4 1 0

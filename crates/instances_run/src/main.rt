@@ -1,4 +1,4 @@
-// Runs document 01's instances of numbers, texts, levels, restoring and records, others beside them, and choices of two offers, and prints each with its answer.
+// Runs the documents' instances of numbers, texts, levels, restoring and records, others beside them, and choices of two offers, and prints each with its answer.
 mod levels;
 mod numbers;
 mod records;

@@ -10,6 +10,9 @@ use printing::print_refusal;
 pub fn run() {
     document();
     document_refused();
+    thousandths();
+    thousandths_at_their_limits();
+    thousandths_refused();
     others();
     others_refused();
     written();
@@ -30,6 +33,27 @@ fn document_refused() {
     read(b"1.450");
     read(b"+3");
     read(b"1234");
+}
+
+// Document 02's F-2: its instances, and others that its rule gives.
+fn thousandths() {
+    read(b"14,505");
+    read(b"-0,005");
+    read(b"0,004");
+    read(b"-0,004");
+    read(b"0,995");
+}
+
+fn thousandths_at_their_limits() {
+    read(b"999,994");
+    read(b"999,995");
+    read(b"-999,999");
+}
+
+fn thousandths_refused() {
+    read(b"14.505");
+    read(b"14,5050");
+    read(b"14,50x");
 }
 
 fn others() {

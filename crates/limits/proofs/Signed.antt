@@ -2,15 +2,16 @@
 -- and its magnitude is reached by turning the sign.
 use mathlib.Core.Path.{_≡_, ap, subst}
 use mathlib.Core.Bool.{true, false}
-use Prim.Native.Nat.{_<_, _≤_, _^_}
+use Prim.Native.Nat.{ℕ, zero, suc, _<_, _≤_, _^_}
 use native.Mathlib.Omega.{arith}
 use lib.Dec.{T, leb}
-use lib.IntN.{ℤ, pos, negsuc, _-ℤ_, natAbs}
+use lib.IntN.{ℤ, pos, negsuc, negℤ, _-ℤ_, natAbs, +ℤ-idl}
 use lib.Signed.{mag, ltZ, nonNeg}
 use borrow.Author.Tests.{ltb-true}
 use mir.Syntax.{Width, w16, w32, w64}
 use mir.Val.{SFits, hbits, toZ, ofZ}
 use mir.Facts.{toZ-ofZ, sfits-widen}
+use mir.ValLaws.{toZ-pos}
 
 -- a number of one width, read back after it was widened to another
 pub widened-to : (narrow wide : Width) {z : ℤ} → T (leb (hbits narrow) (hbits wide)) → SFits narrow z → toZ wide (ofZ wide (toZ narrow (ofZ narrow z))) ≡ z
@@ -27,6 +28,17 @@ turned (negsuc n) e = ap pos (omega arith)
 pub turned-fits : (z : ℤ) → ltZ z (pos 0) ≡ true → SFits w32 z → SFits w64 (pos 0 -ℤ z)
 turned-fits (pos n) e f = absurd (omega (arith, ltb-true n 0 e))
 turned-fits (negsuc n) e f = let b = f .sfits in record { sfits = omega arith }
+
+-- a natural number that fits, its sign turned
+pub negative-is : (width : Width) (n : ℕ) → n < 2 ^ hbits width → pos 0 -ℤ toZ width n ≡ negℤ (pos n)
+negative-is width n small = rw (toZ-pos width n small) (+ℤ-idl (negℤ (pos n)))
+
+pub negative-fits : (width : Width) (n : ℕ) → n < 2 ^ hbits width → SFits width (pos 0 -ℤ toZ width n)
+negative-fits width n small = rw (negative-is width n small) (fits n small)
+  where
+    fits : (n : ℕ) → n < 2 ^ hbits width → SFits width (negℤ (pos n))
+    fits zero small = record { sfits = small }
+    fits (suc n) small = record { sfits = omega arith }
 
 pub not-below : (z : ℤ) → ltZ z (pos 0) ≡ false → T (nonNeg z)
 not-below (pos n) e = tt

@@ -68,7 +68,12 @@ pub fn greater(one: u32, other: u32) -> u32
 pub fn is_beyond(limit: u32, number: i32) -> bool
     ensures { λ r. ⌜ r ≡ beyond limit number ⌝ }
 {
-    limit < magnitude(number)
+    let wide = number as i64;
+    let most = limit as i64;
+    if most < wide {
+        return true;
+    }
+    wide < 0 - most
 }
 
 // Whether a number is no band: below 0 or above 40,000.

@@ -9,8 +9,8 @@ ghost use lib.ListN.{length};
 ghost use Rattle.profile.specs.Answers.{textRefused, TextRead, ProfileRead};
 ghost use Rattle.profile.specs.Inner.{SetpointsRead};
 
-// The bytes of the longest line, `-200,00` and its byte 10, and of the longest text: such lines for the rest value, the band and 512 setpoints.
-pub const LONGEST_LINE: usize = 8;
+// The bytes of the longest line, `-200,004` and its byte 10, and of the longest text: such lines for the rest value, the band and 512 setpoints.
+pub const LONGEST_LINE: usize = 9;
 
 pub const LONGEST_TEXT: usize = LONGEST_LINE * 514;
 

@@ -1,15 +1,12 @@
 -- `decimal::read::digit_at` meets its contract: no byte is no digit.
-use mathlib.Core.Path.{refl}
 use native.Mathlib.Omega.{arith}
-use lib.ListN.{List·getD-eq-default}
+use Rattle.decimal.proofs.Fronts.{no-digit-there}
 use borrow.Author.Needs.{needs}
 use Rattle.decimal.proofs.read.digit_at.Statement.{statement}
 use Rattle.decimal.proofs.read.digit_at.Tie as tie
 
 returns : tie.Need-returns
-returns c =
-    rw (List·getD-eq-default (c .before .before .args .bytes .now) 0 {n = c .before .before .args .at} (omega arith))
-    (record { digit-is = λ small. absurd (omega arith); no-digit = λ large. refl })
+returns c = no-digit-there (c .before .before .args .bytes .now) (c .before .before .args .at) (omega arith)
 
 shared-slice-read-digit-of : tie.Need-shared-slice-read-digit-of
 shared-slice-read-digit-of c = search needs

@@ -3,17 +3,18 @@ use mathlib.Core.Path.{_≡_, refl, sym, ap, _∙_}
 use mathlib.Core.Bool.{true, false}
 use mathlib.Core.List.{List, [], _∷_}
 use mathlib.Core.Option.{none}
-use Prim.Native.Nat.{ℕ, zero, suc, _+_, _≤_, _<_}
+use Prim.Native.Nat.{ℕ, zero, suc, _+_, _≤_, _<_, _^_}
 use native.Mathlib.Numerals.{add-one}
 use native.Mathlib.Omega.{arith}
 use lib.Dec.{eqb}
-use lib.IntN.{pos, negℤ, _-ℤ_, +ℤ-idl}
+use lib.IntN.{pos}
 use lib.ListN.{length, getD, take, drop}
 use mir.Syntax.{w32}
-use mir.Val.{SFits, toZ}
+use mir.Val.{hbits}
 use mir.Facts.{toZ-ofZ}
 use mir.ValLaws.{toZ-pos}
 use Rattle.limits.proofs.Parts.{to-end}
+use Rattle.limits.proofs.Signed.{negative-is, negative-fits}
 use Rattle.decimal.specs.Number.{leadingDigits, unsigned, signed, negated, readsAs}
 use Rattle.decimal.specs.Inner.{inNumber, FrontRead}
 use Rattle.decimal.proofs.Fronts.{minus-in, not-both}
@@ -21,18 +22,9 @@ use borrow.Author.Needs.{needs}
 use Rattle.decimal.proofs.read.read_front.Statement.{statement}
 use Rattle.decimal.proofs.read.read_front.Tie as tie
 
-plain-is : (number : ℕ) → number ≤ 99999 → toZ w32 number ≡ pos number
-plain-is number small = toZ-pos w32 number (omega arith)
-
-negated-is : (number : ℕ) → number ≤ 99999 → pos 0 -ℤ toZ w32 number ≡ negated number
-negated-is number small = rw (plain-is number small) (+ℤ-idl (negℤ (pos number)))
-
-negated-fits : (number : ℕ) → number ≤ 99999 → SFits w32 (negated number)
-negated-fits zero small = record { sfits = omega arith }
-negated-fits (suc number) small = record { sfits = omega arith }
-
-difference-fits : (number : ℕ) → number ≤ 99999 → SFits w32 (pos 0 -ℤ toZ w32 number)
-difference-fits number small = rw (negated-is number small) (negated-fits number small)
+-- 31 bits have room for a number that is read
+has-room : {number : ℕ} → number ≤ 100000 → number < 2 ^ hbits w32
+has-room small = omega arith
 
 minus-inside : (bytes : List ℕ) → eqb (getD bytes 0 0) 45 ≡ true → 1 ≤ length bytes
 minus-inside [] a-minus = absurd (not-both 0 (minus-in 0 a-minus) refl)
@@ -70,14 +62,14 @@ no-minus bytes number count not-minus front = record {
   no-other = λ place inside stops other. plain-means bytes place not-minus ∙ ap (signed pos) (front .no-other place inside stops other);
 }
 
-is-negative-requires : tie.Need-is-negative-requires
-is-negative-requires c κs = search needs
+begins-with-requires : tie.Need-begins-with-requires
+begins-with-requires c κs = search needs
 
 sub-read-unsigned : tie.Need-sub-read-unsigned
-sub-read-unsigned c = minus-inside (c .before .before .before .args .bytes .now) (sym (c .before .is-negative .ensures) ∙ c .if1 .taken)
+sub-read-unsigned c = minus-inside (c .before .before .before .args .bytes .now) (sym (c .before .begins-with .ensures) ∙ c .if1 .taken)
 
 part-read-unsigned-start : tie.Need-part-read-unsigned-start
-part-read-unsigned-start c = omega (arith, minus-inside (c .before .before .before .args .bytes .now) (sym (c .before .is-negative .ensures) ∙ c .if1 .taken))
+part-read-unsigned-start c = omega (arith, minus-inside (c .before .before .before .args .bytes .now) (sym (c .before .begins-with .ensures) ∙ c .if1 .taken))
 
 part-read-unsigned-end : tie.Need-part-read-unsigned-end
 part-read-unsigned-end c = search needs
@@ -89,7 +81,7 @@ cast-t9 : tie.Need-cast-t9
 cast-t9 c = search needs
 
 sub-t10 : tie.Need-sub-t10
-sub-t10 c = difference-fits (c .before .read-unsigned .result .number) (c .before .read-unsigned .ensures .at-most)
+sub-t10 c = negative-fits w32 (c .before .read-unsigned .result .number) (has-room (c .before .read-unsigned .ensures .at-most))
 
 add-t6 : tie.Need-add-t6
 add-t6 c = search needs
@@ -100,8 +92,9 @@ returns c =
     let part = c .before .before .read-unsigned in
     let number = part .result .number in
     let read = rw (to-end 1 bytes) at (part .ensures) in
-    rw (toZ-ofZ (difference-fits number (read .at-most)), negated-is number (read .at-most))
-    (after-minus bytes number _ (sym (c .before .before .before .before .before .is-negative .ensures) ∙ c .before .before .before .before .if1 .taken) (read .front))
+    let room = has-room (read .at-most) in
+    rw (toZ-ofZ (negative-fits w32 number room), negative-is w32 number room)
+    (after-minus bytes number _ (sym (c .before .before .before .before .before .begins-with .ensures) ∙ c .before .before .before .before .if1 .taken) (read .front))
 
 read-unsigned-requires-2 : tie.Need-read-unsigned-requires-2
 read-unsigned-requires-2 c κs = search needs
@@ -112,14 +105,14 @@ cast-t11 c = search needs
 returns-2 : tie.Need-returns-2
 returns-2 c =
     let part = c .before .read-unsigned2 in
-    rw (plain-is (part .result .number) (part .ensures .at-most))
-    (no-minus (c .before .before .before .before .before .args .bytes .now) _ _ (sym (c .before .before .before .is-negative .ensures) ∙ c .before .before .if1 .left) (part .ensures .front))
+    rw (toZ-pos w32 (part .result .number) (has-room (part .ensures .at-most)))
+    (no-minus (c .before .before .before .before .before .args .bytes .now) _ _ (sym (c .before .before .before .begins-with .ensures) ∙ c .before .before .if1 .left) (part .ensures .front))
 
 pub read-front-spec : {M : Type 1} → statement M
 read-front-spec =
     tie.close
     (tie.spec
-    is-negative-requires
+    begins-with-requires
     sub-read-unsigned
     part-read-unsigned-start
     part-read-unsigned-end
