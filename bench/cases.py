@@ -65,7 +65,9 @@ def readings():
     rng = random.Random(514)
     lines = {
         "random lines": [b"%d,%02d" % (rng.randrange(200), rng.randrange(100)) for _ in range(512)],
-        "the longest lines": [b"-199,99"] * 512,
+        "random thousandths": [b"%d,%03d" % (rng.randrange(200), rng.randrange(1000)) for _ in range(512)],
+        "long lines": [b"-199,99"] * 512,
+        "the longest lines": [b"-199,994"] * 512,
         "the shortest lines": [b"0"] * 512,
     }
     return [reading(name, b"\n".join([b"14,00", b"0,25", *setpoints, b""])) for name, setpoints in lines.items()]

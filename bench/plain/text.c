@@ -26,6 +26,14 @@ static int read_digits(struct text *text, int most, int *number)
     return digits;
 }
 
+/* Reads a third digit after the comma, if there is one; the number has no sign yet, so from 5 on it counts one hundredth more. */
+static int read_carry(struct text *text)
+{
+    int third = 0;
+    read_digits(text, 1, &third);
+    return third >= 5;
+}
+
 /* Reads one line as hundredths; false where it is not a number with its line end. */
 static bool read_line(struct text *text, int *value)
 {
@@ -33,12 +41,15 @@ static bool read_line(struct text *text, int *value)
     bool negative = skip(text, '-');
     if (read_digits(text, 3, &number) == 0)
         return false;
-    if (skip(text, ',') || skip(text, '.')) {
+    bool comma = skip(text, ',');
+    if (comma || skip(text, '.')) {
         int decimals = read_digits(text, 2, &number);
         if (decimals == 0)
             return false;
         if (decimals == 1)
             number *= 10;
+        else if (comma)
+            number += read_carry(text);
     } else {
         number *= 100;
     }

@@ -261,7 +261,7 @@ static void type_character(char character)
     typed[text_len++] = (uint8_t)character;
 }
 
-/* Types a value in hundredths as a line. */
+/* Types a value in hundredths as a line; one in four has a third digit, which may round it away from zero. */
 static void type_value(int32_t value)
 {
     uint32_t size = (uint32_t)(value < 0 ? -value : value);
@@ -275,6 +275,8 @@ static void type_value(int32_t value)
     type_character(',');
     type_character((char)('0' + size / 10 % 10));
     type_character((char)('0' + size % 10));
+    if (below(4) == 0)
+        type_character((char)('0' + below(10)));
     type_character('\n');
 }
 
@@ -338,6 +340,8 @@ static void ask_texts(void)
         "", "\n", "14,00", "14,00\n", "14,00\n0,25\n", "14,00\n0,25", "14,00\n0,25\n1", "14,00\n0,25\n14,\n", "14,00\n0,25\n1.450\n",
         "14,00\n0,25\n+3\n", "14,00\n0,25\n1234\n", "14,00\n0,25\n200,00\n", "14,00\n0,25\n200,01\n", "14,00\n0,25\n-200,00\n",
         "14,00\n0,25\n-200,01\n", "999,01\n", "14,00\n-0,01\n1\n", "14,00\n400,00\n1\n", "14,00\n400,01\n1\n", "14,00\n-0\n-0,00\n",
+        "14,505\n0,254\n14,104\n-0,005\n", "-200,004\n400,004\n200,004\n0,995\n", "14,00\n-0,004\n-0,004\n", "14,00\n0,25\n200,005\n",
+        "14,00\n-0,005\n1\n", "999,995\n", "14,00\n0,25\n14.505\n", "14,00\n0,25\n14,5050\n", "14,00\n0,25\n14,505",
         "14 \n0,25\n1\n", "14,00\n0,25\n1\n\n", "14,00\r\n0,25\r\n1\r\n", "-,5\n0\n1\n", "--1\n0\n1\n", "1\n2\n3\n4\n5\n6\n7\n8\n9"
     };
     record = changed;

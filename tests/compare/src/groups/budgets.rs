@@ -2,9 +2,9 @@
 
 use crate::comparison::Comparison;
 use crate::document::BUDGET_LIMIT;
-use crate::document::text::write_text;
 use crate::inputs::profiles::{SHAPES, any_profile, profile};
 use crate::inputs::random::Random;
+use crate::inputs::typed::any_text;
 
 const BEYOND: [u64; 9] = [1_024, 1_025, 32_768, 65_535, 65_536, 65_537, 1 << 32, (1 << 32) + 1, u64::MAX];
 
@@ -12,7 +12,8 @@ pub fn run(comparison: &mut Comparison) {
     let mut random = Random::new(3);
     for shape in SHAPES {
         for slots in [1, 2, 3, 5, 8, 31, 512] {
-            let text = write_text(&profile(&mut random, shape, slots));
+            let profile = profile(&mut random, shape, slots);
+            let text = any_text(&mut random, &profile);
             for budget in (0..=BUDGET_LIMIT.min(2 * slots as u64)).chain([BUDGET_LIMIT - 1, BUDGET_LIMIT]).chain(BEYOND)
             {
                 comparison.least_band_of_text(&text, budget);
@@ -21,7 +22,8 @@ pub fn run(comparison: &mut Comparison) {
     }
     for _ in 0..1_000 {
         let slots = 1 + random.below(64);
-        let text = write_text(&any_profile(&mut random, slots));
+        let profile = any_profile(&mut random, slots);
+        let text = any_text(&mut random, &profile);
         let budget = random.next() >> random.below(64);
         comparison.least_band_of_text(&text, budget);
         comparison.least_band_of_text(&text, budget % (slots as u64 + 2));

@@ -1,4 +1,4 @@
-//! Document 01's instances, each by name, with what the paper itself says they give.
+//! The documents' instances, each by name, with what the documents themselves say they give, and readings of them.
 
 use crate::comparison::Comparison;
 use crate::document::record::{Fields, Record, byte_count};
@@ -13,6 +13,7 @@ pub fn run(comparison: &mut Comparison) {
     let mut instances = Instances(comparison);
     one_firing(&mut instances);
     numbers(&mut instances);
+    thousandths(&mut instances);
     lengths_of_texts(&mut instances);
     small_profiles(&mut instances);
     wrong_turnings(&mut instances);
@@ -30,23 +31,23 @@ fn refused(number: u16) -> [u16; 4] {
 impl Instances<'_> {
     fn builds(&mut self, name: &str, text: &[u8], gives: [u16; 4]) -> Option<Vec<u8>> {
         let (answer, record) = self.0.text_to_record(text, byte_count(1_023));
-        self.0.same("an instance of document 01", &name, gives, answer);
+        self.0.same("an instance of the documents", &name, gives, answer);
         record
     }
 
     fn restores(&mut self, name: &str, record: &[u8], slot: u64, gives: [u16; 4]) {
         let answer = self.0.record_slot(record, slot);
-        self.0.same("an instance of document 01", &name, gives, answer);
+        self.0.same("an instance of the documents", &name, gives, answer);
     }
 
     fn checks(&mut self, name: &str, record: &[u8], text: &[u8], gives: [u16; 4]) {
         let answer = self.0.record_against_text(record, text);
-        self.0.same("an instance of document 01", &name, gives, answer);
+        self.0.same("an instance of the documents", &name, gives, answer);
     }
 
     fn least_band(&mut self, name: &str, text: &[u8], budget: u64, gives: [u16; 4]) {
         let answer = self.0.least_band_of_text(text, budget);
-        self.0.same("an instance of document 01", &name, gives, answer);
+        self.0.same("an instance of the documents", &name, gives, answer);
     }
 
     /// A field as a setpoint under band 0: the restored setpoint is the number read, or building refuses.
@@ -101,6 +102,37 @@ fn numbers(instances: &mut Instances) {
         instances.refuses("no number as the band", format!("14\n{field}\n14\n").as_bytes(), 1);
     }
     instances.reads("200,01", Err(2));
+}
+
+/// Document 02's F-2: its instances, and others that its rule gives.
+fn thousandths(instances: &mut Instances) {
+    let read = [
+        ("14,505", 1451),
+        ("14,504", 1450),
+        ("-14,505", -1451),
+        ("-0,005", -1),
+        ("0,004", 0),
+        ("-0,004", 0),
+        ("0,995", 100),
+        ("199,995", 20_000),
+        ("200,004", 20_000),
+        ("-200,004", -20_000),
+    ];
+    for (field, value) in read {
+        instances.reads(field, Ok(value));
+    }
+    for (field, number) in [("14.505", 1), ("14,5050", 1), ("200,005", 2), ("-200,005", 2), ("999,995", 2)] {
+        instances.reads(field, Err(number));
+    }
+    for (band, header) in [("400,004", 40_000), ("399,995", 40_000), ("0,005", 1), ("0,004", 0), ("-0,004", 0)] {
+        let name = format!("`{band}` as a band");
+        let record = instances.builds(&name, format!("0\n{band}\n0\n").as_bytes(), [0, 7, 0, 0]);
+        let expected = Record { slots: 1, band: header, rest: 0, terms: Vec::new() }.bytes();
+        instances.0.same("the record of a band in thousandths", &name, Some(expected), record);
+    }
+    for (band, number) in [("400,005", 3), ("-0,005", 3), ("0.004", 1)] {
+        instances.refuses("a band in thousandths", format!("0\n{band}\n0\n").as_bytes(), number);
+    }
 }
 
 fn lengths_of_texts(instances: &mut Instances) {

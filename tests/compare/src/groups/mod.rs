@@ -16,7 +16,7 @@ pub type Group = fn(&mut Comparison);
 
 pub const ALL: [(&str, Group); 9] = [
     ("the second program against itself", self_check::run),
-    ("document 01's instances", instances::run),
+    ("the documents' instances", instances::run),
     ("numbers as typed", numbers::run),
     ("texts, good and damaged", texts::run),
     ("firings: built, restored, checked", firings::run),

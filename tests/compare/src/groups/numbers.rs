@@ -2,12 +2,12 @@
 //! as the restored one.
 
 use crate::comparison::Comparison;
-use crate::document::number::write_number;
+use crate::document::number::{read_number, write_number};
 use crate::document::record::byte_count;
 use crate::document::text::{Profile, write_text};
 use crate::document::{BAND_LIMIT, SLOT_LIMIT, VALUE_LIMIT};
 use crate::inputs::random::Random;
-use crate::inputs::typed::{NO_NUMBERS, OUT_OF_RANGE, lines, number, text};
+use crate::inputs::typed::{NO_NUMBERS, NUMBER_LIMIT, OUT_OF_RANGE, any_text, number};
 
 pub fn run(comparison: &mut Comparison) {
     let mut random = Random::new(4);
@@ -15,13 +15,16 @@ pub fn run(comparison: &mut Comparison) {
         in_all_places(comparison, field);
     }
     for length in 0..=5 {
-        every_field(comparison, b"-,.019 ", length);
+        every_field(comparison, b"-,.059 ", length);
     }
-    for typed in [b"14,50".as_slice(), b"-199.99"] {
+    for units in [0, 7, 99, 199, 200, 399, 400, 999] {
+        every_thousandth(comparison, units);
+    }
+    for typed in [b"14,50".as_slice(), b"-199.99", b"-14,505"] {
         one_byte_changed(comparison, typed);
     }
     for length in (3..300).chain(65_536..65_540) {
-        too_many_digits(comparison, length);
+        many_digits(comparison, length);
     }
     every_value(comparison, &mut random);
 }
@@ -43,6 +46,15 @@ fn every_field(comparison: &mut Comparison, bytes: &[u8], length: u32) {
     }
 }
 
+/// Every three digits after a comma, and after a point, with a minus and without.
+fn every_thousandth(comparison: &mut Comparison, units: u32) {
+    for thousandths in 0..1000 {
+        for (sign, mark) in [("", ','), ("-", ','), ("", '.'), ("-", '.')] {
+            in_all_places(comparison, format!("{sign}{units}{mark}{thousandths:03}").as_bytes());
+        }
+    }
+}
+
 /// Every byte value in every place, in place of a byte and between two.
 fn one_byte_changed(comparison: &mut Comparison, typed: &[u8]) {
     for byte in 0..=255 {
@@ -54,11 +66,12 @@ fn one_byte_changed(comparison: &mut Comparison, typed: &[u8]) {
     }
 }
 
-/// So many digits before the mark, and after it.
-fn too_many_digits(comparison: &mut Comparison, length: usize) {
+/// So many digits before the mark, and after either.
+fn many_digits(comparison: &mut Comparison, length: usize) {
     let digits = vec![b'0'; length];
     in_all_places(comparison, &digits);
     in_all_places(comparison, &[b"1,", digits.as_slice()].concat());
+    in_all_places(comparison, &[b"1.", digits.as_slice()].concat());
 }
 
 /// Every value in range and some beyond, as written out and in another form.
@@ -67,15 +80,16 @@ fn every_value(comparison: &mut Comparison, random: &mut Random) {
         in_all_places(comparison, write_number(value).as_bytes());
     }
     for _ in 0..5_000 {
-        let value = random.between(-99_999, 99_999);
-        in_all_places(comparison, &number(random, value));
+        let value = random.between(-NUMBER_LIMIT, NUMBER_LIMIT);
+        let typed = number(random, value);
+        comparison.same("a form reads as its value", &typed.escape_ascii(), Some(value), read_number(&typed));
+        in_all_places(comparison, &typed);
     }
     let values: Vec<i32> = (-VALUE_LIMIT..=VALUE_LIMIT).collect();
     for setpoints in values.chunks(SLOT_LIMIT) {
         let profile =
             Profile { rest: random.between(-VALUE_LIMIT, VALUE_LIMIT), band: 0, setpoints: setpoints.to_vec() };
         comparison.text_to_record(&write_text(&profile), byte_count(SLOT_LIMIT));
-        let typed = text(&lines(random, &profile));
-        comparison.text_to_record(&typed, byte_count(SLOT_LIMIT));
+        comparison.text_to_record(&any_text(random, &profile), byte_count(SLOT_LIMIT));
     }
 }

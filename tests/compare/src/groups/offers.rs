@@ -5,10 +5,11 @@ use super::instances::{FIRING, FIRING_RECORD};
 use crate::comparison::Comparison;
 use crate::document::record::{Record, byte_count};
 use crate::document::synopsis::{Term, padded};
-use crate::document::text::{Profile, write_text};
+use crate::document::text::Profile;
 use crate::inputs::changes::Change;
 use crate::inputs::profiles::{SHAPES, any_profile, away, profile, record};
 use crate::inputs::random::Random;
+use crate::inputs::typed::any_text;
 
 pub fn run(comparison: &mut Comparison) {
     let mut random = Random::new(7);
@@ -63,13 +64,13 @@ fn by_name(comparison: &mut Comparison) {
 
 /// Every two of many buffers, in either order; and each beside the record that is built, for texts that are refused after their last good line.
 fn every_pair(comparison: &mut Comparison, random: &mut Random, profile: &Profile) {
-    let text = write_text(profile);
+    let text = any_text(random, profile);
     let buffers = buffers(comparison, random, profile, &text);
     for first in &buffers {
         for second in &buffers {
             comparison.better_offer(&text, first, second);
         }
-        for behind in [b"x".as_slice(), b"\n", b"200,01\n", b"14,00"] {
+        for behind in [b"x".as_slice(), b"\n", b"200,01\n", b"200,005\n", b"14.505\n", b"14,00"] {
             comparison.better_offer(&[text.as_slice(), behind].concat(), first, &buffers[0]);
         }
     }

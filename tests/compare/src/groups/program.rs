@@ -6,14 +6,14 @@ use crate::document::SLOT_LIMIT;
 use crate::document::text::{Profile, write_text};
 use crate::inputs::profiles::{LIMIT_VALUES, SHAPES, any_profile, profile};
 use crate::inputs::random::Random;
-use crate::inputs::typed::{NO_NUMBERS, OUT_OF_RANGE, lines, text};
+use crate::inputs::typed::{NO_NUMBERS, OUT_OF_RANGE, any_text, lines, text};
 
 /// What document 01 has `fire` print for its own text, to the letter.
 const FIRING_PRINTED: &str = "4 1 0,25 0,25\nterm 3 19,75\nslot 0 14,00\nslot 1 14,00\nslot 2 19,75\nslot 3 19,75\n";
 
-/// The longest text that is accepted: 514 lines of seven characters and the byte 10.
+/// The longest text that is accepted: 514 lines of eight characters and the byte 10.
 fn longest() -> Vec<u8> {
-    [b"-200,00\n-000,00\n".as_slice(), &b"-200,00\n".repeat(SLOT_LIMIT)].concat()
+    [b"-200,004\n-000,004\n".as_slice(), &b"-200,004\n".repeat(SLOT_LIMIT)].concat()
 }
 
 pub fn run(comparison: &mut Comparison) {
@@ -26,7 +26,7 @@ pub fn run(comparison: &mut Comparison) {
     for slots in 1..=SLOT_LIMIT {
         let shape = SHAPES[slots % SHAPES.len()];
         let profile = profile(&mut random, shape, slots);
-        comparison.fire(&text(&lines(&mut random, &profile)));
+        comparison.fire(&any_text(&mut random, &profile));
     }
     for shape in SHAPES {
         comparison.fire(&write_text(&profile(&mut random, shape, SLOT_LIMIT)));
@@ -71,14 +71,14 @@ fn faults(comparison: &mut Comparison, random: &mut Random) {
 /// 514 lines, and bytes after them: one, a line, and so many that the program does not read them all.
 fn long_texts(comparison: &mut Comparison) {
     let longest = longest();
-    comparison.same("the bytes of the longest text", &"514 lines", 8 * (2 + SLOT_LIMIT), longest.len());
+    comparison.same("the bytes of the longest text", &"514 lines", 9 * (2 + SLOT_LIMIT), longest.len());
     comparison.fire(&longest);
     comparison.fire(&longest[..longest.len() - 1]);
     for byte in 0..=255 {
         comparison.fire(&[longest.as_slice(), &[byte]].concat());
     }
     comparison.fire(&[longest.as_slice(), b"0\n"].concat());
-    for line in [b"0\n".as_slice(), b"-200,00\n", b"14,50\r\n", b"0", b"\n", b"\0"] {
+    for line in [b"0\n".as_slice(), b"-200,00\n", b"-200,004\n", b"14,50\r\n", b"0", b"\n", b"\0"] {
         let mut many = line.repeat(100_000 / line.len() + 1);
         many.truncate(100_000);
         comparison.fire(&many);

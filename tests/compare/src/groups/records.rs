@@ -4,10 +4,11 @@ use crate::comparison::Comparison;
 use crate::document::SLOT_LIMIT;
 use crate::document::record::{Fields, Record, byte_count};
 use crate::document::synopsis::{padded_length, restored};
-use crate::document::text::{Profile, write_text};
+use crate::document::text::Profile;
 use crate::inputs::changes::{add_term, changes, put_terms};
 use crate::inputs::profiles::{any_profile, away, band, record, value};
 use crate::inputs::random::Random;
+use crate::inputs::typed::any_text;
 
 /// Slots beyond every record, also those that end in a small number when cut short.
 const FAR_SLOTS: [u64; 8] = [512, 1_023, 65_535, 65_536, 1 << 32, (1 << 32) + 1, 1 << 63, u64::MAX];
@@ -47,23 +48,25 @@ fn read(comparison: &mut Comparison, random: &mut Random, bytes: &[u8], slots: u
     let far = *random.pick(&FAR_SLOTS);
     comparison.record_slot(bytes, near);
     comparison.record_slot(bytes, far);
-    comparison.record_against_text(bytes, &write_text(&any_profile(random, slots)));
+    let profile = any_profile(random, slots);
+    comparison.record_against_text(bytes, &any_text(random, &profile));
 }
 
 /// A record against the profile it restores, against that with one slot moved to the band and past it, against others.
 fn checked(comparison: &mut Comparison, random: &mut Random, record: &Record) {
     let bytes = record.bytes();
     let restored = restored_profile(random, record);
-    comparison.record_against_text(&bytes, &write_text(&restored));
+    comparison.record_against_text(&bytes, &any_text(random, &restored));
     for distance in [record.band - 1, record.band, record.band + 1] {
         for slot in [0, random.below(record.slots), record.slots - 1] {
             let mut moved = restored.clone();
             moved.setpoints[slot] = away(moved.setpoints[slot], distance);
-            comparison.record_against_text(&bytes, &write_text(&moved));
+            comparison.record_against_text(&bytes, &any_text(random, &moved));
         }
     }
     for slots in [record.slots, record.slots + 1, record.slots - 1, 1, padded_length(record.slots)] {
-        let text = write_text(&any_profile(random, slots.clamp(1, SLOT_LIMIT)));
+        let profile = any_profile(random, slots.clamp(1, SLOT_LIMIT));
+        let text = any_text(random, &profile);
         comparison.record_against_text(&bytes, &text);
         comparison.record_against_text(&bytes, &text[..text.len() - 1]);
         comparison.record_against_text(&bytes[..bytes.len() - 1], &text);

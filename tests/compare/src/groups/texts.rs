@@ -1,4 +1,4 @@
-//! Texts of all numbers of lines, whole and damaged, through the three calls that read one.
+//! Texts of all numbers of lines, whole and damaged, through the four calls that read one.
 
 use crate::comparison::Comparison;
 use crate::document::record::byte_count;
@@ -6,7 +6,7 @@ use crate::document::text::Profile;
 use crate::document::{BUDGET_LIMIT, SLOT_LIMIT};
 use crate::inputs::profiles::{any_profile, record};
 use crate::inputs::random::Random;
-use crate::inputs::typed::{NO_NUMBERS, OUT_OF_RANGE, lines, text};
+use crate::inputs::typed::{NO_NUMBERS, OUT_OF_RANGE, any_text, lines, text};
 
 pub fn run(comparison: &mut Comparison) {
     let mut random = Random::new(5);
@@ -21,7 +21,7 @@ pub fn run(comparison: &mut Comparison) {
     }
 }
 
-/// A text through the three calls, with destination, budget and record as chance has it: a text's refusal goes before theirs.
+/// A text through the four calls, with destination, budget and record as chance has it: a text's refusal goes before theirs.
 fn read(comparison: &mut Comparison, random: &mut Random, text: &[u8]) {
     let destination = *random.pick(&[0, 6, 7, byte_count(1_023)]);
     comparison.text_to_record(text, destination);
@@ -32,6 +32,7 @@ fn read(comparison: &mut Comparison, random: &mut Random, text: &[u8]) {
     let mut bytes = record(random, slots, 4).bytes();
     bytes.truncate(bytes.len() - random.below(2));
     comparison.record_against_text(&bytes, text);
+    comparison.better_offer(text, &bytes, &bytes);
 }
 
 /// A profile whose answers are quickly worked out: it is the text that matters here.
@@ -59,7 +60,7 @@ fn every_length(comparison: &mut Comparison, random: &mut Random) {
 /// Every front part of a text of 42 lines, and of the longest text the parts that end near its end.
 fn every_prefix(comparison: &mut Comparison, random: &mut Random) {
     let profile = any_profile(random, 40);
-    let short = text(&lines(random, &profile));
+    let short = any_text(random, &profile);
     for end in 0..short.len() {
         read(comparison, random, &short[..end]);
     }

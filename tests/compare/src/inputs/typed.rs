@@ -4,7 +4,7 @@ use super::random::Random;
 use crate::document::text::Profile;
 
 /// Fields that are no numbers.
-pub const NO_NUMBERS: [&[u8]; 30] = [
+pub const NO_NUMBERS: [&[u8]; 35] = [
     b"",
     b"-",
     b"+3",
@@ -34,31 +34,62 @@ pub const NO_NUMBERS: [&[u8]; 30] = [
     b"1 0",
     b"14;50",
     b"\xEF\xBC\x91",
-    b"14,500",
+    b"14.505",
+    b"-0.005",
+    b"14,5050",
+    b"-0,0005",
+    b"14,50.5",
+    b"14.50,5",
 ];
 
 /// Numbers that are out of range as a rest value or setpoint, or as a band.
-pub const OUT_OF_RANGE: [&[u8]; 10] =
-    [b"200,01", b"-200,01", b"200.1", b"-201", b"400,01", b"400.1", b"-0,01", b"-0.1", b"999,99", b"-999,99"];
+pub const OUT_OF_RANGE: [&[u8]; 16] = [
+    b"200,01",
+    b"-200,01",
+    b"200.1",
+    b"-201",
+    b"400,01",
+    b"400.1",
+    b"-0,01",
+    b"-0.1",
+    b"999,99",
+    b"-999,99",
+    b"200,005",
+    b"-200,005",
+    b"400,005",
+    b"-0,005",
+    b"999,995",
+    b"-999,995",
+];
+
+/// The greatest number that a field reads as, only by three digits after a comma; the least is its negative.
+pub const NUMBER_LIMIT: i32 = 100_000;
 
 /// A value in one of the forms that are read as it.
 pub fn number(random: &mut Random, value: i32) -> Vec<u8> {
     let minus = value < 0 || (value == 0 && random.below(4) == 0);
-    let (units, hundredths) = (value.abs() / 100, value.abs() % 100);
-    let units_width = random.between(1, 3) as usize;
-    let units = format!("{}{units:0units_width$}", if minus { "-" } else { "" });
+    let sign = if minus { "-" } else { "" };
+    let width = random.between(1, 3) as usize;
+    let size = value.abs();
+    let (units, hundredths) = (size / 100, size % 100);
     let mark = *random.pick(&[',', '.']);
-    let shortest = if hundredths == 0 {
+    let shortest = if size == NUMBER_LIMIT {
+        3
+    } else if hundredths == 0 {
         0
     } else if hundredths % 10 == 0 {
         1
     } else {
         2
     };
-    match random.between(shortest, 2) {
-        0 => units,
-        1 => format!("{units}{mark}{}", hundredths / 10),
-        _ => format!("{units}{mark}{hundredths:02}"),
+    match random.between(shortest, 3) {
+        0 => format!("{sign}{units:0width$}"),
+        1 => format!("{sign}{units:0width$}{mark}{}", hundredths / 10),
+        2 => format!("{sign}{units:0width$}{mark}{hundredths:02}"),
+        _ => {
+            let thousandths = random.between((10 * size - 5).max(0), (10 * size + 4).min(10 * NUMBER_LIMIT - 1));
+            format!("{sign}{:0width$},{:03}", thousandths / 1000, thousandths % 1000)
+        }
     }
     .into_bytes()
 }
@@ -67,6 +98,11 @@ pub fn number(random: &mut Random, value: i32) -> Vec<u8> {
 pub fn lines(random: &mut Random, profile: &Profile) -> Vec<Vec<u8>> {
     let numbers = [profile.rest, profile.band].into_iter().chain(profile.setpoints.iter().copied());
     numbers.map(|value| number(random, value)).collect()
+}
+
+/// A profile's text, each number in some form.
+pub fn any_text(random: &mut Random, profile: &Profile) -> Vec<u8> {
+    text(&lines(random, profile))
 }
 
 /// Lines as a text: each ends in the byte 10.
