@@ -64,7 +64,7 @@ pub fn greater(one: u32, other: u32) -> u32
     if one < other { other } else { one }
 }
 
-// Whether a number lies beyond ±limit.
+// Whether a number lies beyond ±limit. In 64 bits every limit fits, also with its sign turned.
 pub fn is_beyond(limit: u32, number: i32) -> bool
     ensures { λ r. ⌜ r ≡ beyond limit number ⌝ }
 {

@@ -1,12 +1,12 @@
 -- `limits::is_beyond` meets its contract: a number is beyond above the limit, and below the limit with its sign turned.
-use mathlib.Core.Path.{_≡_, refl, sym, _∙_}
-use mathlib.Core.Bool.{Bool, true, false, false≢true}
+use mathlib.Core.Path.{_≡_, sym, _∙_}
+use mathlib.Core.Bool.{true, false, false≢true}
 use Prim.Native.Nat.{ℕ, zero, suc, _<_, _^_}
 use native.Mathlib.Omega.{arith}
-use lib.Dec.{ltb}
+use lib.Dec.{leb·suc-suc}
 use lib.IntN.{ℤ, pos, negsuc, negℤ}
 use lib.Signed.{ltZ}
-use borrow.Author.Tests.{ltb-true, ltb-false, lt-ltb, le-ltb}
+use borrow.Author.Tests.{lt-ltb, le-ltb}
 use mir.Syntax.{w32, w64}
 use mir.Val.{Fits, hbits}
 use mir.Facts.{toZ-ofZ, sfits-widen}
@@ -21,18 +21,11 @@ above : (limit : ℕ) (number : ℤ) → ltZ (pos limit) number ≡ true → tru
 above limit (pos n) is = sym is
 above limit (negsuc n) is = absurd (false≢true is)
 
-ltb-suc : (m n : ℕ) → ltb m n ≡ ltb (suc m) (suc n)
-ltb-suc m n = by-test (ltb m n) refl
-  where
-    by-test : (less : Bool) → ltb m n ≡ less → less ≡ ltb (suc m) (suc n)
-    by-test true is = sym (lt-ltb (suc m) (suc n) (omega (arith, ltb-true m n is)))
-    by-test false is = sym (le-ltb (suc m) (suc n) (omega (arith, ltb-false m n is)))
-
 not-above : (limit : ℕ) (number : ℤ) → ltZ (pos limit) number ≡ false → ltZ number (negℤ (pos limit)) ≡ beyond limit number
 not-above zero (pos n) is = le-ltb n 0 (omega arith) ∙ sym is
 not-above zero (negsuc n) is = sym (lt-ltb 0 (suc n) (omega arith))
 not-above (suc limit) (pos n) is = sym is
-not-above (suc limit) (negsuc n) is = ltb-suc limit n
+not-above (suc limit) (negsuc n) is = sym (leb·suc-suc (suc limit) n)
 
 -- a limit of 32 bits is below half of 64
 limit-small : {limit : ℕ} → Fits w32 limit → limit < 2 ^ hbits w64

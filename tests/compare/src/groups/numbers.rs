@@ -15,7 +15,7 @@ pub fn run(comparison: &mut Comparison) {
         in_all_places(comparison, field);
     }
     for length in 0..=5 {
-        every_field(comparison, b"-,.059 ", length);
+        every_field(comparison, b"-,.0159 ", length);
     }
     for units in [0, 7, 99, 199, 200, 399, 400, 999] {
         every_thousandth(comparison, units);
