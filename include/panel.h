@@ -5,6 +5,9 @@
  * third digit after a comma, which is rounded half away from zero: 14,505 is 1451 and -0,005 is -1. After a point three digits
  * are refused. The limits below hold for the rounded value.
  *
+ * A profile has the slots of its text and no others: where their number is no power of two the tree has leaves past the last
+ * slot, and no call looks at what a record restores there.
+ *
  * Every call returns four fields of 16 bits in one number; the functions below take them out.
  * The lowest field is the refusal's number, 0 for success. A refusal leaves the other fields 0
  * and lent memory as it was.
@@ -143,8 +146,7 @@ static inline uint16_t panel_check_error(uint64_t result)
     return panel_field(result, 2);
 }
 
-/* The lowest slot whose error exceeds the band where it is not kept, else 0.
- * It may be a filler slot, past the profile's last: filler carries the last setpoint up to the next power of two. */
+/* The lowest slot of the text whose error exceeds the band where it is not kept, else 0. */
 static inline uint16_t panel_lowest_slot(uint64_t result)
 {
     return panel_field(result, 3);

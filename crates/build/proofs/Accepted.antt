@@ -2,7 +2,7 @@
 use mathlib.Core.Path.{_≡_, sym, subst}
 use mathlib.Core.Bool.{Bool, false, not}
 use mathlib.Core.List.{List}
-use Prim.Native.Nat.{ℕ, _-_, _≤_, min}
+use Prim.Native.Nat.{ℕ, _≤_}
 use lib.Dec.{T, ltb}
 use lib.IntN.{ℤ, natAbs}
 use lib.ListN.{length}
@@ -31,14 +31,13 @@ profile-accepted profile rest none =
     record {
       slots = slots-within (length profile) (four .0);
       in-range = record {
-        setpoints-within = λ slot. within-all profile (subst (λ (far : Bool). T (not far)) (sym near) tt) (min slot (length profile - 1));
+        setpoints-within = within-all profile (subst (λ (far : Bool). T (not far)) (sym near) tt);
         rest-within = ltb-false 20000 (natAbs rest) (two .0);
       };
     }
 
 pub acceptable : {profile : List ℤ} {rest : ℤ} → ProfileAccepted profile rest → (scratch : List ℤ) → scratchShort (length scratch) ≡ false → Acceptable profile rest scratch
 acceptable accepted scratch long = record {
-  some-slot = accepted .slots .some-slot;
   few-slots = accepted .slots .few-slots;
   in-range = accepted .in-range;
   scratch-long = ltb-false (length scratch) 12288 long;

@@ -12,7 +12,7 @@ use Rattle.subtree.specs.Answer.{slotWindows, termsFor}
 use Rattle.subtree.specs.Stretch.{Solvable, Solved, Counted}
 use Rattle.build.specs.Inner.{Searchable, BandFound}
 
--- the band at `high` needs few enough terms, and the band just below `low` too many; where `solved` says so, scratch holds every node's answer for `high`
+-- the band at `high` needs few enough terms, and the band just below `low` too many; where `solved` says so, scratch is solved for `high`
 pub record Between (height value budget top : ℕ) (setpoints before scratch : List ℤ) (low high : ℕ) (solved : Bool) : Type 0 where
   pub same-length : length scratch ≡ length before
   pub ordered : low ≤ high
@@ -38,7 +38,7 @@ module _ (height value budget top : ℕ) (known : Bool) (setpoints before : List
   solvable-narrower searchable scratch same-length band narrower =
       let solvable = searchable .solvable in
       record {
-        slots = solvable .slots;
+        few-slots = solvable .few-slots;
         setpoints-within = solvable .setpoints-within;
         band-within = omega (arith, solvable .band-within);
         in-tree = solvable .in-tree;

@@ -23,11 +23,12 @@ use Rattle.claims.proofs.Reduced as Reduced
 use Rattle.claims.proofs.Widest.{widest-needs-none}
 use Rattle.subtree.specs.Answer.{termsFor}
 use Rattle.subtree.proofs.Slots.{windows-usable}
+use Rattle.subtree.proofs.Rows.{slots-below, profile-within, profile-needs}
 use Rattle.trace.specs.Trace.{Traced}
 use Rattle.trace.proofs.Walked.{upper-terms-walked}
 use Rattle.build.specs.Building.{handedOver}
-use Rattle.build.specs.Inner.{Filled, tracedFor, Searchable, LeastWithin, Acceptable, Buildable, TreeFits, TreeBuilt, BestBuilt}
-use Rattle.build.proofs.Trees.{leaves, leaves-within, leaves-solvable, windows-below, needed-at, few-needed}
+use Rattle.build.specs.Inner.{tracedFor, Searchable, LeastWithin, Acceptable, Buildable, TreeFits, TreeBuilt, BestBuilt}
+use Rattle.build.proofs.Trees.{profile-solvable, few-needed}
 
 module _ {terms : List Term} {nodes nodes′ : List ℕ} {values values′ : List ℤ} {count : ℕ} (traced : Traced terms nodes nodes′ values values′ count) where
   as-many-nodes : length (nodesOf terms) ≡ count
@@ -50,37 +51,30 @@ module _ {terms : List Term} {nodes nodes′ : List ℕ} {values values′ : Lis
   values-same : drop count values′ ≡ drop count values
   values-same = rw (traced .values-are) (past-front (valuesOf terms) values count as-many-values)
 
-module _ (profile : List ℤ) (rest : ℤ) (band : ℕ) (nodes : List ℕ) (values scratch : List ℤ) (buildable : Buildable profile rest band nodes values scratch)
-    (room : List ℤ) (long : 512 ≤ length room) (filled : Filled profile room) where
+module _ (profile : List ℤ) (rest : ℤ) (band : ℕ) (nodes : List ℕ) (values scratch : List ℤ) (buildable : Buildable profile rest band nodes values scratch) where
   in-range : InRange profile rest
   in-range = buildable .acceptable .in-range
 
-  few : length profile ≤ 512
-  few = buildable .acceptable .few-slots
-
-  abbrev slots : List ℤ
-  slots = leaves profile room
-
   -- the terms traced for a band are those that the theory's walk leaves
-  terms-walked : (error : ℕ) → tracedFor error (height (length profile)) slots (lifted rest) ≡ walkedTerms in-range error
-  terms-walked error = upper-terms-walked in-range error (windows-usable error (leaves-within in-range few room long filled)) (windows-below in-range few room long filled error)
+  terms-walked : (error : ℕ) → tracedFor error (height (length profile)) profile (lifted rest) ≡ walkedTerms in-range error
+  terms-walked error = upper-terms-walked in-range error (windows-usable error (profile-within in-range)) (slots-below profile error (profile-within in-range))
 
-  pub tree-fits : TreeFits band (height (length profile)) (lifted rest) slots nodes values scratch
+  pub tree-fits : TreeFits band (height (length profile)) (lifted rest) profile nodes values scratch
   tree-fits = record {
-    solvable = leaves-solvable in-range few room long filled band (buildable .band-within) scratch (buildable .acceptable .scratch-long);
+    solvable = profile-solvable in-range (buildable .acceptable .few-slots) band (buildable .band-within) scratch (buildable .acceptable .scratch-long);
     value-within = lifted-within rest (in-range .rest-within);
     room = λ error.
-        omega (arith, ap (λ (terms : List Term). length terms) (terms-walked error), walked-as-few in-range error, few-needed in-range few room long filled error, buildable .destination-long);
+        omega (arith, ap (λ (terms : List Term). length terms) (terms-walked error), walked-as-few in-range error, few-needed in-range error, buildable .destination-long);
     same-room = sym (buildable .same-length);
   }
 
   module _ (nodes′ : List ℕ) (values′ : List ℤ) (count error : ℕ)
-      (built : TreeBuilt band (height (length profile)) (lifted rest) slots nodes nodes′ values values′ count error) where
+      (built : TreeBuilt band (height (length profile)) (lifted rest) profile nodes nodes′ values values′ count error) where
     terms-are : handedOver count nodes′ values′ ≡ walkedTerms in-range error
     terms-are = handed-over (built .traced) ∙ terms-walked error
 
     as-few : fewestTerms profile rest error ≤ fewestTerms profile rest band
-    as-few = omega (arith, built .least .enough, needed-at in-range few room long filled error, needed-at in-range few room long filled band)
+    as-few = omega (arith, built .least .enough, profile-needs in-range error, profile-needs in-range band)
 
     needs-more : 0 < error → length (walkedTerms in-range error) < fewestTerms profile rest (error - 1)
     needs-more some =
@@ -89,8 +83,8 @@ module _ (profile : List ℤ) (rest : ℤ) (band : ℕ) (nodes : List ℕ) (valu
           built .least .narrower-not some,
           as-few,
           walked-as-few in-range error,
-          needed-at in-range few room long filled (error - 1),
-          needed-at in-range few room long filled band,
+          profile-needs in-range (error - 1),
+          profile-needs in-range band,
         )
 
     pub best-built : BestBuilt profile rest band (record { refusal = 0; count = count; error = error }) nodes nodes′ values values′
@@ -105,22 +99,21 @@ module _ (profile : List ℤ) (rest : ℤ) (band : ℕ) (nodes : List ℕ) (valu
     }
 
 -- the least band of the tree up to 40,000 is the least band for the budget
-module _ (profile : List ℤ) (rest : ℤ) (budget : ℕ) (scratch : List ℤ) (acceptable : Acceptable profile rest scratch)
-    (room : List ℤ) (long : 512 ≤ length room) (filled : Filled profile room) where
+module _ (profile : List ℤ) (rest : ℤ) (budget : ℕ) (scratch : List ℤ) (acceptable : Acceptable profile rest scratch) where
   abbrev near : InRange profile rest
   near = acceptable .in-range
 
-  needed-here : (band : ℕ) → termsFor band (height (length profile)) (leaves profile room) (lifted rest) ≡ fewestTerms profile rest band
-  needed-here = needed-at near (acceptable .few-slots) room long filled
+  needed-here : (band : ℕ) → termsFor band (height (length profile)) profile (lifted rest) ≡ fewestTerms profile rest band
+  needed-here = profile-needs near
 
-  pub tree-searchable : Searchable 40000 (height (length profile)) (lifted rest) budget false (leaves profile room) scratch
+  pub tree-searchable : Searchable 40000 (height (length profile)) (lifted rest) budget false profile scratch
   tree-searchable = record {
-    solvable = leaves-solvable near (acceptable .few-slots) room long filled 40000 (omega arith) scratch (acceptable .scratch-long);
+    solvable = profile-solvable near (acceptable .few-slots) 40000 (omega arith) scratch (acceptable .scratch-long);
     enough = omega (arith, needed-here 40000, widest-needs-none near);
     in-scratch = λ wrong. absurd (subst T (sym wrong) tt);
   }
 
-  pub least-found : (band : ℕ) → LeastWithin 40000 (height (length profile)) (lifted rest) budget (leaves profile room) band
+  pub least-found : (band : ℕ) → LeastWithin 40000 (height (length profile)) (lifted rest) budget profile band
       → LeastBand profile rest budget band
   least-found band least =
       Reduced.least-band near (omega (arith, least .enough, needed-here band)) (λ some. omega (arith, least .narrower-not some, needed-here (band - 1)))

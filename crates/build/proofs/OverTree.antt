@@ -19,7 +19,7 @@ module _ (band height value : ℕ) (setpoints : List ℤ) (nodes : List ℕ) (va
   solvable-later later same-length =
       let solvable = fits .solvable in
       record {
-        slots = solvable .slots;
+        few-slots = solvable .few-slots;
         setpoints-within = solvable .setpoints-within;
         band-within = solvable .band-within;
         in-tree = solvable .in-tree;
@@ -49,5 +49,5 @@ module _ (band height value : ℕ) (setpoints : List ℤ) (nodes : List ℕ) (va
       → LevelsTraced last height value nodes nodes′ values values′ count → TreeBuilt band height value setpoints nodes nodes′ values values′ count error
   tree-built later last budget error count nodes′ values′ counted least solved traced = record {
     least = subst (λ (number : ℕ). LeastWithin band height value number setpoints error) (counted .count-is) least;
-    traced = traced .each (slotWindows error setpoints) solved;
+    traced = traced .each (slotWindows error setpoints) (windows-usable error (fits .solvable .setpoints-within)) solved;
   }

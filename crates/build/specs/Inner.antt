@@ -3,11 +3,11 @@ use mathlib.Core.Path.{_≡_}
 use mathlib.Core.Bool.{Bool, true, false}
 use mathlib.Core.List.{List}
 use Prim.Native.Nat.{ℕ, suc, _-_, _≤_, _<_}
-use lib.IntN.{ℤ, pos}
-use lib.ListN.{length, getD, drop}
+use lib.IntN.{ℤ}
+use lib.ListN.{length, drop}
 use Rattle.limits.specs.Limits.{outsideBand}
 use Rattle.histogram.specs.Tree.{padded}
-use Rattle.histogram.specs.Errors.{setpointOf, greatestError}
+use Rattle.histogram.specs.Errors.{greatestError}
 use Rattle.claims.specs.Inner.{InRange}
 use Rattle.claims.specs.Best.{Best}
 use Rattle.histogram.specs.declared.Term.{Term}
@@ -18,15 +18,11 @@ use Rattle.trace.specs.Trace.{upperTerms, Traced}
 use Rattle.build.specs.declared.BuildAnswer.{BuildAnswer}
 use Rattle.build.specs.Building.{valuesRefusal, handedOver}
 
--- a setpoint for each slot of the tree, filler slots too
-pub record Filled (profile setpoints : List ℤ) : Type 0 where
-  pub each : (slot : ℕ) → slot < length setpoints → getD setpoints slot (pos 0) ≡ setpointOf profile slot
-
 -- the terms that are traced for a band over a tree of setpoints, where a value comes in at the root
 abbrev pub tracedFor : (band height : ℕ) → List ℤ → (value : ℕ) → List Term
 tracedFor band height setpoints value = upperTerms (suc height) height (slotWindows band setpoints) value
 
--- a tree whose terms for the widest band are within a budget, and whether scratch holds every node's answer for that band
+-- a tree whose terms for the widest band are within a budget, and whether scratch is solved for that band
 pub record Searchable (top height value budget : ℕ) (solved : Bool) (setpoints scratch : List ℤ) : Type 0 where
   pub solvable : Solvable top height setpoints scratch
   pub enough : termsFor top height setpoints value ≤ budget
@@ -38,13 +34,13 @@ pub record LeastWithin (top height value budget : ℕ) (setpoints : List ℤ) (l
   pub enough : termsFor least height setpoints value ≤ budget
   pub narrower-not : 0 < least → budget < termsFor (least - 1) height setpoints value
 
--- that band was found, and whether scratch holds every node's answer for it
+-- that band was found, and whether scratch is solved for it
 pub record BandFound (top height value budget : ℕ) (setpoints before after : List ℤ) (least : ℕ) (solved : Bool) : Type 0 where
   pub least-within : LeastWithin top height value budget setpoints least
   pub same-length : length after ≡ length before
   pub in-scratch : solved ≡ true → Solved height (slotWindows least setpoints) (at after)
 
--- that band was found, and scratch holds every node's answer for it
+-- that band was found, and scratch is solved for it
 pub record LeastSolved (top height value budget : ℕ) (setpoints before after : List ℤ) (least : ℕ) : Type 0 where
   pub least-within : LeastWithin top height value budget setpoints least
   pub same-length : length after ≡ length before
@@ -69,7 +65,6 @@ pub record RightProfile (profile : List ℤ) (rest band : ℤ) : Type 0 where
 
 -- setpoints, a rest value and scratch that are not refused
 pub record Acceptable (profile : List ℤ) (rest : ℤ) (scratch : List ℤ) : Type 0 where
-  pub some-slot : 1 ≤ length profile
   pub few-slots : length profile ≤ 512
   pub in-range : InRange profile rest
   pub scratch-long : 12288 ≤ length scratch

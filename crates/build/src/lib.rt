@@ -1,13 +1,11 @@
 // Building the best synopsis of a profile, and the least band for a number of terms.
 // Terms are handed over in two slices of equal length, their nodes and their values.
-mod slots;
 mod tree;
 
 use histogram::terms::padded_length;
-use slots::fill;
-use slots::tree_over;
 use subtree::lift;
 use tree::build_tree;
+use tree::height_over;
 use tree::least_band_within;
 ghost use mathlib.Core.Path.{_≡_};
 ghost use lib.ListN.{length};
@@ -102,13 +100,9 @@ fn build_best(
     requires { ⌜ Buildable (now setpoints) rest band (now nodes) (now values) (now scratch) ⌝ }
     ensures { λ r. ⌜ BestBuilt (now (setpoints .entry)) rest band r (now (nodes .entry)) (now (nodes .exit)) (now (values .entry)) (now (values .exit)) ⌝ }
 {
-    let mut room = [0i16; 512];
-    fill(setpoints, &mut room);
-    let size = tree_over(setpoints.len());
-    let padded = size.padded;
-    let height = size.height;
+    let height = height_over(setpoints.len());
     let value = lift(rest);
-    let built = build_tree(&room[..padded], value, band, nodes, values, scratch, height);
+    let built = build_tree(setpoints, value, band, nodes, values, scratch, height);
     BuildAnswer {
         refusal: 0,
         count: built.count,
@@ -161,20 +155,8 @@ fn least_band_of(setpoints: &[i16], rest: i32, budget: u32, scratch: &mut [i16])
     requires { ⌜ Acceptable (now setpoints) rest (now scratch) ⌝ }
     ensures { λ r. ⌜ LeastBand (now (setpoints .entry)) rest budget r ⌝ }
 {
-    let mut room = [0i16; 512];
-    fill(setpoints, &mut room);
-    let size = tree_over(setpoints.len());
-    let padded = size.padded;
-    let height = size.height;
+    let height = height_over(setpoints.len());
     let value = lift(rest);
-    let found = least_band_within(
-        &room[..padded],
-        value,
-        budget,
-        40000,
-        scratch,
-        height,
-        false,
-    );
+    let found = least_band_within(setpoints, value, budget, 40000, scratch, height, false);
     found.band as u16
 }

@@ -1,19 +1,31 @@
-// The search for the least band of a tree whose slots all have setpoints, and building there.
+// The tree over a profile: its height, the search for the least band there, and building.
+use histogram::level::level;
+use histogram::terms::padded_length;
 use subtree::count_terms;
 use subtree::solve;
 use trace::trace;
 ghost use mathlib.Core.Path.{_≡_};
 ghost use mathlib.Core.Bool.{true};
+ghost use Prim.Native.Nat.{_≤_};
 ghost use lib.ListN.{length};
+ghost use Rattle.histogram.specs.Tree.{height};
 ghost use Rattle.build.specs.Inner.{Searchable, BandFound, LeastSolved, TreeFits, TreeBuilt};
 
-// The band that a search found, and whether scratch holds every node's answer for it.
+// The height of the tree over a number of slots: the level of its first leaf.
+pub fn height_over(slots: usize) -> u32
+    requires { ⌜ slots ≤ 512 ⌝ }
+    ensures { λ r. ⌜ r ≡ height slots ⌝ }
+{
+    level(padded_length(slots) as u16) as u32
+}
+
+// The band that a search found, and whether scratch is solved for it.
 pub struct FoundBand {
     pub band: u32,
     pub solved: bool,
 }
 
-// The least band up to `top` for which the tree needs no more terms than the budget, by halving; `solved` says whether scratch holds every node's answer for `top`.
+// The least band up to `top` for which the tree needs no more terms than the budget, by halving; `solved` says whether scratch is solved for `top`.
 pub fn least_band_within(
     setpoints: &[i16],
     value: u32,
@@ -45,7 +57,7 @@ pub fn least_band_within(
     }
 }
 
-// The least band up to `top` for which the tree needs no more terms than the budget; scratch, which holds every node's answer for `top`, then holds those for that band.
+// The least band up to `top` for which the tree needs no more terms than the budget; scratch, which is solved for `top`, is then solved for that band.
 fn solve_least_band(
     setpoints: &[i16],
     value: u32,

@@ -5,7 +5,7 @@ use mathlib.Core.Option.{Option, none, some}
 use mathlib.Core.List.{List}
 use Prim.Native.Nat.{ℕ, zero, suc, _-_, _*_, _/_, _^_, _≤_, _<_}
 use native.Mathlib.Omega.{arith}
-use lib.Dec.{leb, le→leb}
+use lib.Dec.{leb}
 use lib.IntN.{ℤ}
 use lib.ListN.{length}
 use lib.Pow.{pow-pos, pow-mono}
@@ -25,10 +25,10 @@ use Rattle.fewest.proofs.Binary.{level-from, level-below}
 use Rattle.fewest.proofs.Fewest.{made-reaches-fewest}
 use Rattle.claims.specs.Best.{KeepingSynopsis}
 use Rattle.claims.specs.LeastBand.{CanKeep}
-use Rattle.claims.specs.Inner.{lifted, distance, accepts, termNode, termValue, fewestTerms, InRange, gathered, comesIn, walked}
+use Rattle.claims.specs.Inner.{lifted, accepts, termNode, termValue, fewestTerms, InRange, gathered, comesIn, walked}
 use Rattle.claims.proofs.Lifted.{lifted-within}
 use Rattle.claims.proofs.Gathered.{gathered-looks-up, gathered-valid}
-use Rattle.claims.proofs.Theory.{valid-is-listed, keeps-from-theory}
+use Rattle.claims.proofs.Theory.{near-accepted, valid-is-listed, keeps-from-theory}
 
 -- what is chosen at a node is at most 40,000
 chosen-within : (costOf : ℕ → ℕ) (above : ℕ) → Within 40000 (chosen 40000 costOf above)
@@ -77,12 +77,12 @@ module _ (accepts : ℕ → ℕ → Bool) (height rest : ℕ) (termAt : ℕ → 
   }
 
 module _ {profile : List ℤ} {rest : ℤ} (in-range : InRange profile rest) (band : ℕ) where
-  -- each slot accepts its own setpoint
-  own-setpoint : (leaf : ℕ) → Inhabited 40000 (accepts profile band leaf)
-  own-setpoint leaf =
+  -- each leaf accepts a value: its slot's setpoint, or any where it is filler
+  some-accepted : (leaf : ℕ) → Inhabited 40000 (accepts profile band leaf)
+  some-accepted leaf =
       let slot : ℕ = leaf - padded (length profile) in
       let setpoint : ℕ = lifted (setpointOf profile slot) in
-      record { value = setpoint; within = lifted-within (setpointOf profile slot) (in-range .setpoints-within slot); inside = le→leb (distance setpoint setpoint) band (omega arith) }
+      record { value = setpoint; within = lifted-within (setpointOf profile slot) (in-range .setpoints-within slot); inside = near-accepted profile band leaf setpoint (omega arith) }
 
   -- the terms that the walk leaves
   abbrev pub walkedTerms : List Term
@@ -96,7 +96,7 @@ module _ {profile : List ℤ} {rest : ℤ} (in-range : InRange profile rest) (ba
   -- that is one of the smallest, by the theory
   walked-smallest : Smallest termNode termValue binary (accepts profile band) 40000 (height (length profile)) (lifted rest) walkedTerms
   walked-smallest =
-      made-reaches-fewest termNode termValue binary (accepts profile band) 40000 (height (length profile)) (lifted rest) own-setpoint walkedTerms
+      made-reaches-fewest termNode termValue binary (accepts profile band) 40000 (height (length profile)) (lifted rest) some-accepted walkedTerms
       (valid-is-listed (length profile) walkedTerms walked-valid)
       (walk-is-made (accepts profile band) (height (length profile)) (lifted rest) (lookup termNode termValue walkedTerms)
       (λ node from below. gathered-looks-up _ 1 (2 * padded (length profile) - 1) node from (omega (arith, pow-pos (height (length profile))))))

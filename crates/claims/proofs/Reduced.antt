@@ -6,7 +6,6 @@ use mathlib.Core.Logic.{⊎-elim}
 use mathlib.Core.List.{List}
 use Prim.Native.Nat.{ℕ, _-_, _≤_, _<_}
 use native.Mathlib.Omega.{arith}
-use lib.Dec.{leb→le, le→leb}
 use lib.IntN.{ℤ}
 use lib.ListN.{length}
 use Rattle.histogram.specs.declared.Term.{Term}
@@ -20,15 +19,13 @@ use Rattle.fewest.proofs.Wider.{wider-needs-no-more}
 use Rattle.claims.specs.Best.{KeepingSynopsis, Best}
 use Rattle.claims.specs.LeastBand.{CanKeep, LeastBand}
 use Rattle.claims.specs.Inner.{lifted, accepts, termNode, termValue, fewestTerms, InRange}
-use Rattle.claims.proofs.Theory.{valid-is-listed, keeps-in-theory}
+use Rattle.claims.proofs.Theory.{wider-accepts, valid-is-listed, keeps-in-theory}
 use Rattle.claims.proofs.Exists.{budget-suffices}
 
 -- a wider band needs no more terms
 pub wider-band : (profile : List ℤ) (rest : ℤ) (narrow wide : ℕ) → narrow ≤ wide → fewestTerms profile rest wide ≤ fewestTerms profile rest narrow
 wider-band profile rest narrow wide wider =
-    wider-needs-no-more binary (accepts profile narrow) (accepts profile wide) 40000
-    (λ leaf value accepted. le→leb _ wide (omega (arith, leb→le _ narrow accepted)))
-    (height (length profile)) (lifted rest)
+    wider-needs-no-more binary (accepts profile narrow) (accepts profile wide) 40000 (wider-accepts profile narrow wide wider) (height (length profile)) (lifted rest)
 
 -- where the band just below a limit needs more than a count, so does every band below the limit
 all-below : (profile : List ℤ) (rest : ℤ) (limit count : ℕ) → (0 < limit → count < fewestTerms profile rest (limit - 1))

@@ -1,23 +1,26 @@
 -- A synopsis of a profile and the theory of fewest terms: the same lists are meant, the same setpoints restored, the same bands kept.
 use mathlib.Core.Path.{_≡_, refl, ap, _∙_}
-use mathlib.Core.Bool.{Bool, true, false, cond}
+use mathlib.Core.Bool.{Bool, true, false, cond, or-true}
+use mathlib.Core.Logic.{⊎-elim}
 use mathlib.Core.List.{List, [], _∷_}
 use mathlib.Core.Option.{some}
 use Prim.Native.Nat.{ℕ, zero, suc, _+_, _-_, _*_, _/_, _^_, _≤_, _<_}
 use native.Mathlib.Omega.{arith}
-use lib.Dec.{T, eqb, leb→le, le→leb}
+use lib.Dec.{T, eqb, leb→le}
 use lib.IntN.{ℤ}
 use lib.Pow.{pow-pos}
 use lib.ListN.{length}
+use borrow.Author.Tests.{le-leb, lt-leb}
 use Rattle.histogram.specs.declared.Term.{Term}
 use Rattle.histogram.specs.Tree.{height, padded}
 use Rattle.histogram.specs.Terms.{Valid, termOr}
 use Rattle.histogram.specs.Restored.{restored, pathNodes}
-use Rattle.histogram.specs.Errors.{setpointOf, slotError, Keeps}
+use Rattle.histogram.specs.Errors.{slotsOf, setpointOf, slotError, Keeps}
 use Rattle.histogram.proofs.Ascent.{ValidFrom, first-above, first-below, first-within, rest-valid}
 use Rattle.histogram.proofs.Above.{path-of-node}
+use Rattle.histogram.proofs.Order.{below-or-not}
 use Rattle.histogram.proofs.Within.{restored-within}
-use Rattle.histogram.proofs.Powers.{level-rule, level-only}
+use Rattle.histogram.proofs.Powers.{level-rule, level-only, height-reaches}
 use Rattle.fewest.specs.Node.{placed}
 use Rattle.fewest.specs.Tree.{binary, ancestor}
 use Rattle.fewest.specs.Walk.{restoredFrom}
@@ -67,6 +70,31 @@ leaf-level levels node from below =
     let some-node : 1 ≤ node = omega (arith, pow-pos levels) in
     path-of-node node some-node ∙ ap suc (level-only (level-rule node some-node) (record { reached = from; next-not = below }))
 
+-- filler accepts every value, and any other slot just what is within its band
+module _ (profile : List ℤ) (band leaf value : ℕ) where
+  abbrev slotAt : ℕ
+  slotAt = leaf - padded (length profile)
+
+  abbrev away : ℕ
+  away = distance (lifted (setpointOf profile slotAt)) value
+
+  filler-accepts : slotsOf profile ≤ slotAt → T (accepts profile band leaf value)
+  filler-accepts past = rw (le-leb (slotsOf profile) slotAt past) tt
+
+  pub near-accepted : away ≤ band → T (accepts profile band leaf value)
+  near-accepted near = rw (le-leb away band near, or-true) tt
+
+  accepted-near : slotAt < slotsOf profile → T (accepts profile band leaf value) → away ≤ band
+  accepted-near counts accepted = leb→le away band (rw (lt-leb (slotsOf profile) slotAt counts) at accepted)
+
+-- with a wider band a leaf accepts no less
+pub wider-accepts : (profile : List ℤ) (narrow wide : ℕ) → narrow ≤ wide → (leaf value : ℕ) → T (accepts profile narrow leaf value) → T (accepts profile wide leaf value)
+wider-accepts profile narrow wide wider leaf value accepted =
+    ⊎-elim
+    (λ counts. near-accepted profile wide leaf value (omega (arith, accepted-near profile narrow leaf value counts accepted)))
+    (λ past. filler-accepts profile wide leaf value past)
+    (below-or-not (leaf - padded (length profile)) (slotsOf profile))
+
 module _ {profile : List ℤ} {rest : ℤ} (in-range : InRange profile rest) (terms : List Term) (valid : Valid (length profile) terms) where
   -- the error of a slot is the distance at its leaf
   error-at-leaf : (slot : ℕ) → slot < padded (length profile)
@@ -92,17 +120,20 @@ module _ {profile : List ℤ} {rest : ℤ} (in-range : InRange profile rest) (te
           let from : padded (length profile) ≤ leaf = level-from (height (length profile)) leaf under-root in
           let in-tree : slot < padded (length profile) = omega (arith, level-below (height (length profile)) leaf under-root) in
           let same : padded (length profile) + slot ≡ leaf = omega arith in
-          let within = rw (error-at-leaf slot in-tree, same) at (keeps .every-slot slot in-tree) in
-          le→leb _ band within
+          ⊎-elim
+          (λ counts. near-accepted profile band leaf _ (rw (error-at-leaf slot in-tree, same) at (keeps .every-slot slot counts)))
+          (λ past. filler-accepts profile band leaf _ past)
+          (below-or-not slot (slotsOf profile))
 
   -- and what keeps a band in the theory keeps it
   pub keeps-from-theory : (band : ℕ) → Theory.Keeps binary (accepts profile band) (height (length profile)) (lifted rest) (lookup termNode termValue terms)
       → Keeps profile rest terms band
   keeps-from-theory band keeps = record { every-slot = at-slot }
     where
-      at-slot : (slot : ℕ) → slot < padded (length profile) → slotError profile rest terms slot ≤ band
-      at-slot slot in-tree =
+      at-slot : (slot : ℕ) → slot < slotsOf profile → slotError profile rest terms slot ≤ band
+      at-slot slot counts =
+          let in-tree : slot < padded (length profile) = omega (arith, height-reaches (length profile)) in
           let leaf : ℕ = padded (length profile) + slot in
           let same : leaf - padded (length profile) ≡ slot = omega arith in
-          let accepted = rw same at (keeps .each-leaf leaf (number-at-level (height (length profile)) leaf (omega arith) (omega arith))) in
-          rw (error-at-leaf slot in-tree) (leb→le _ band accepted)
+          let accepted = keeps .each-leaf leaf (number-at-level (height (length profile)) leaf (omega arith) (omega arith)) in
+          rw (error-at-leaf slot in-tree) (rw same at (accepted-near profile band leaf _ (omega arith) accepted))

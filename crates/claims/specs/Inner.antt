@@ -1,5 +1,5 @@
 -- A profile as the theory of fewest terms takes it: numbers from 0 up. For the proofs alone.
-use mathlib.Core.Bool.{Bool}
+use mathlib.Core.Bool.{Bool, _||_}
 use mathlib.Core.List.{List, [], _∷_}
 use mathlib.Core.Option.{Option, none, some}
 use Prim.Native.Nat.{ℕ, zero, suc, _+_, _-_, _/_, _≤_}
@@ -8,7 +8,7 @@ use lib.IntN.{ℤ, pos, negsuc, natAbs, subℕ}
 use lib.ListN.{length}
 use Rattle.histogram.specs.declared.Term.{Term}
 use Rattle.histogram.specs.Tree.{height, padded, levelOf}
-use Rattle.histogram.specs.Errors.{setpointOf, bandAt}
+use Rattle.histogram.specs.Errors.{slotsOf, setpointOf, bandAt}
 use Rattle.fewest.specs.Node.{placed, chosen}
 use Rattle.fewest.specs.Tree.{binary}
 use Rattle.fewest.specs.Cost.{fewest}
@@ -22,11 +22,11 @@ lifted (negsuc n) = 20000 - suc n
 abbrev pub distance : ℕ → ℕ → ℕ
 distance a b = (a - b) + (b - a)
 
--- whether the slot at a leaf accepts a value: it is within the slot's band of the slot's setpoint
+-- whether the slot at a leaf accepts a value: it is filler, which accepts every value, or the value is within the slot's band of its setpoint
 abbrev pub accepts : List ℤ → ℕ → ℕ → ℕ → Bool
 accepts profile band leaf value =
     let slot : ℕ = leaf - padded (length profile) in
-    leb (distance (lifted (setpointOf profile slot)) value) (bandAt band slot)
+    leb (slotsOf profile) slot || leb (distance (lifted (setpointOf profile slot)) value) (bandAt band slot)
 
 -- a term's node and its value, as the theory takes them
 abbrev pub termNode : Term → ℕ
@@ -39,7 +39,7 @@ termValue term = lifted (term .value)
 abbrev pub fewestTerms : List ℤ → ℤ → ℕ → ℕ
 fewestTerms profile rest band = fewest binary (accepts profile band) 40000 (height (length profile)) (lifted rest)
 
--- setpoints and rest value within ±20,000, filler slots too
+-- setpoints and rest value within ±20,000
 pub record InRange (profile : List ℤ) (rest : ℤ) : Type 0 where
   pub setpoints-within : (slot : ℕ) → natAbs (setpointOf profile slot) ≤ 20000
   pub rest-within : natAbs rest ≤ 20000

@@ -6,14 +6,13 @@ use mathlib.Core.Logic.{⊎-elim}
 use Prim.Native.Nat.{ℕ, zero, suc, _+_, _/_, _<_, _≤_}
 use native.Mathlib.Omega.{arith}
 use lib.IntN.{ℤ}
-use lib.ListN.{length}
 use lib.Pow.{pow-pos}
 use borrow.Author.Tests.{eq-eqb, ne-eqb}
 use Rattle.histogram.specs.declared.Term.{Term}
 use Rattle.histogram.specs.Tree.{height, padded}
 use Rattle.histogram.specs.Terms.{Valid, termOr}
 use Rattle.histogram.specs.Restored.{restored, restoredAt, restoredSlot, pathNodes}
-use Rattle.histogram.specs.Errors.{slotError, greatest, greatestError, Keeps}
+use Rattle.histogram.specs.Errors.{slotsOf, slotError, greatest, greatestError, Keeps}
 use Rattle.histogram.proofs.Above.{from-above}
 use Rattle.histogram.proofs.Ascent.{ValidFrom, first-above, rest-valid}
 use Rattle.histogram.proofs.Order.{below-or-not}
@@ -89,9 +88,9 @@ each-within f (suc count) k below =
 module _ (profile : List ℤ) (rest : ℤ) (terms : List Term) (band : ℕ) where
   -- a synopsis keeps a band exactly where its greatest error is within the band
   pub keeps-greatest : Keeps profile rest terms band → greatestError profile rest terms ≤ band
-  keeps-greatest keeps = greatest-bound (slotError profile rest terms) (padded (length profile)) band (keeps .every-slot)
+  keeps-greatest keeps = greatest-bound (slotError profile rest terms) (slotsOf profile) band (keeps .every-slot)
 
   pub greatest-keeps : greatestError profile rest terms ≤ band → Keeps profile rest terms band
   greatest-keeps within = record {
-    every-slot = λ slot below. omega (arith, each-within (slotError profile rest terms) (padded (length profile)) slot below);
+    every-slot = λ slot below. omega (arith, each-within (slotError profile rest terms) (slotsOf profile) slot below);
   }

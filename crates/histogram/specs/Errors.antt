@@ -1,24 +1,23 @@
--- Errors and the band: document 01, "The setpoint in a slot". For the auditor.
+-- Errors and the band: document 01, "The setpoint in a slot", as document 02's F-3 has it. For the auditor.
 -- `proofs/Expected.antt` shows that a synopsis keeps a band exactly where its greatest error is within it: `keeps-greatest`, `greatest-keeps`.
 use mathlib.Core.List.{List}
-use Prim.Native.Nat.{ℕ, zero, suc, _-_, _≤_, _<_, min, max}
+use Prim.Native.Nat.{ℕ, zero, suc, _≤_, _<_, max}
 use lib.IntN.{ℤ, pos, _-ℤ_, natAbs}
 use lib.ListN.{length, getD}
 use Rattle.histogram.specs.declared.Term.{Term}
-use Rattle.histogram.specs.Tree.{padded}
 use Rattle.histogram.specs.Restored.{restoredSlot}
 
--- the setpoint of a slot; "slots n to m-1 are filler and carry the setpoint of slot n-1"
+-- the slots that count, from slot 0 on: "slots below n alone"; slots n to m-1 are filler, and "filler carries no setpoint"
+abbrev pub slotsOf : List ℤ → ℕ
+slotsOf profile = length profile
+
+-- the setpoint of a slot that counts
 abbrev pub setpointOf : List ℤ → ℕ → ℤ
-setpointOf profile slot = getD profile (min slot (length profile - 1)) (pos 0)
+setpointOf profile slot = getD profile slot (pos 0)
 
 -- "An error is the absolute difference of setpoint and restored setpoint"
 abbrev pub slotError : List ℤ → ℤ → List Term → ℕ → ℕ
 slotError profile rest terms slot = natAbs (setpointOf profile slot -ℤ restoredSlot (length profile) rest terms slot)
-
--- the slots that count, from slot 0 on: "building and checking treat" filler "as slots", so all m
-abbrev pub slotsOf : List ℤ → ℕ
-slotsOf profile = padded (length profile)
 
 -- the band that a slot goes by: one for all
 abbrev pub bandAt : ℕ → ℕ → ℕ
@@ -29,7 +28,7 @@ unfoldable pub greatest : (ℕ → ℕ) → ℕ → ℕ
 greatest f zero = 0
 greatest f (suc count) = max (greatest f count) (f count)
 
--- "The greatest error runs over all m slots"
+-- the greatest error over the slots that count
 abbrev pub greatestError : List ℤ → ℤ → List Term → ℕ
 greatestError profile rest terms = greatest (slotError profile rest terms) (slotsOf profile)
 

@@ -4,19 +4,30 @@ use native.Mathlib.Omega.{arith}
 use lib.IntN.{pos}
 use Rattle.limits.specs.Limits.{anyBeyond}
 use Rattle.decimal.specs.Number.{leadingDigits, decimal}
-use Rattle.histogram.specs.Tree.{height}
+use Rattle.histogram.specs.Tree.{height, levelOf}
+use Rattle.histogram.specs.Terms.{validFrom, termOr}
+use Rattle.histogram.specs.Restored.{restored}
+use Rattle.histogram.specs.Errors.{greatest}
 use Rattle.windows.specs.Windows.{covers, meet, join}
 use Rattle.subtree.specs.Answer.{answer}
-use Rattle.instances.specs.Instances.{AllHold, starred, five, hundreds}
-use Rattle.instances.proofs.Rows.{Full, row-builds, row-least-band}
+use Rattle.instances.specs.Instances.{AllHold, starred, five, hundreds, lastHundred, threeHundreds}
+use Rattle.instances.proofs.Rows.{Near, row-builds, row-best, row-least-band}
 
-five-full : Full five (pos 0)
-unfolding anyBeyond height
-five-full = record { none-beyond = tt; rest-within = omega arith; no-filler = refl }
+five-near : Near five (pos 0)
+unfolding anyBeyond
+five-near = record { none-beyond = tt; rest-within = omega arith }
 
-hundreds-full : Full hundreds (pos 0)
-unfolding anyBeyond height
-hundreds-full = record { none-beyond = tt; rest-within = omega arith; no-filler = refl }
+hundreds-near : Near hundreds (pos 0)
+unfolding anyBeyond
+hundreds-near = record { none-beyond = tt; rest-within = omega arith }
+
+last-hundred-near : Near lastHundred (pos 0)
+unfolding anyBeyond
+last-hundred-near = record { none-beyond = tt; rest-within = omega arith }
+
+three-hundreds-near : Near threeHundreds (pos 0)
+unfolding anyBeyond
+three-hundreds-near = record { none-beyond = tt; rest-within = omega arith }
 
 -- a row and the rows after it
 _and_ : {A B : Type 0} → A → B → A × B
@@ -25,7 +36,7 @@ row and others = (row, others)
 infixr 10 _and_
 -- the rows of the table, in its order
 pub starred-hold : AllHold starred
-unfolding leadingDigits decimal height covers meet join answer
+unfolding leadingDigits decimal height levelOf validFrom termOr restored greatest covers meet join answer
 starred-hold =
     refl
     and refl
@@ -36,11 +47,15 @@ starred-hold =
     and refl
     and refl
     and refl
-    and row-builds five-full (omega arith) refl refl (λ positive. omega arith)
-    and row-builds five-full (omega arith) refl refl (λ positive. omega arith)
-    and row-builds hundreds-full (omega arith) refl refl (λ positive. omega arith)
-    and row-builds hundreds-full (omega arith) refl refl (λ positive. omega arith)
-    and row-least-band hundreds-full (omega arith) (λ positive. omega arith)
-    and row-least-band hundreds-full (omega arith) (λ positive. omega arith)
-    and row-least-band hundreds-full (omega arith) (λ positive. omega arith)
+    and row-builds five-near (omega arith) refl refl (λ positive. omega arith)
+    and row-builds five-near (omega arith) refl refl (λ positive. omega arith)
+    and row-builds hundreds-near (omega arith) refl refl (λ positive. omega arith)
+    and row-builds hundreds-near (omega arith) refl refl (λ positive. omega arith)
+    and row-least-band hundreds-near (omega arith) (λ positive. omega arith)
+    and row-least-band hundreds-near (omega arith) (λ positive. omega arith)
+    and row-least-band hundreds-near (omega arith) (λ positive. omega arith)
+    and row-builds last-hundred-near (omega arith) refl refl (λ positive. omega arith)
+    and row-best last-hundred-near tt refl refl
+    and row-builds three-hundreds-near (omega arith) refl refl (λ positive. omega arith)
+    and row-best three-hundreds-near tt refl refl
     and tt

@@ -1,4 +1,4 @@
--- Document 01's starred instances, and those of document 02's F-2 with its fault after a point, as one table. For the auditor. `proofs/Hold.antt` proves that every one holds.
+-- Document 01's starred instances, those of document 02's F-2 with its fault after a point, and that of its F-3 with one more, as one table. For the auditor. `proofs/Hold.antt` proves that every one holds.
 use mathlib.Core.Path.{_≡_}
 use mathlib.Core.List.{List, [], _∷_}
 use mathlib.Core.Option.{some}
@@ -20,6 +20,8 @@ pub data Instance : Type 0 where
   refused : (field : List ℕ) (number : ℕ) → Instance
   -- a profile, its rest value and a band, and the number of terms and the greatest error of a best synopsis
   builds : (profile : List ℤ) (rest : ℤ) (band count error : ℕ) → Instance
+  -- a profile, its rest value and a band, and a best synopsis
+  hasBest : (profile : List ℤ) (rest : ℤ) (band : ℕ) (terms : List Term) → Instance
   -- a profile, its rest value and a budget of terms, and the least band for it
   leastBand : (profile : List ℤ) (rest : ℤ) (budget band : ℕ) → Instance
 
@@ -40,6 +42,7 @@ abbrev pub Holds : Instance → Type 0
 Holds (gives field value) = readsAs field ≡ some value
 Holds (refused field number) = 1 when isNone (readsAs field) ≡ number
 Holds (builds profile rest band count error) = BestHave profile rest band count error
+Holds (hasBest profile rest band terms) = Best profile rest band terms
 Holds (leastBand profile rest budget band) = LeastBand profile rest budget band
 
 -- what every instance of a list says
@@ -54,6 +57,14 @@ five = pos 5 ∷ []
 -- four slots of setpoints 0, 100, 0 and 100
 abbrev pub hundreds : List ℤ
 hundreds = pos 0 ∷ pos 100 ∷ pos 0 ∷ pos 100 ∷ []
+
+-- six slots, all of setpoint 0 but for the last, which has 100
+abbrev pub lastHundred : List ℤ
+lastHundred = pos 0 ∷ pos 0 ∷ pos 0 ∷ pos 0 ∷ pos 0 ∷ pos 100 ∷ []
+
+-- three slots of setpoint 100
+abbrev pub threeHundreds : List ℤ
+threeHundreds = pos 100 ∷ pos 100 ∷ pos 100 ∷ []
 
 -- the table: each row's instances under its words
 abbrev pub starred : List Instance
@@ -79,4 +90,10 @@ starred =
     ∷ leastBand hundreds (pos 0) 0 100
     ∷ leastBand hundreds (pos 0) 1 50
     ∷ leastBand hundreds (pos 0) 2 0
+    -- F-3: "0, 0, 0, 0, 0, 100 with rest 0 and band 0 drops from two terms to one", which is the term (13, 100)
+    ∷ builds lastHundred (pos 0) 0 1 0
+    ∷ hasBest lastHundred (pos 0) 0 (record { node = 13; value = pos 100 } ∷ [])
+    -- filler accepts every value, and not the rest value alone: one term at the root serves three slots of 100
+    ∷ builds threeHundreds (pos 0) 0 1 0
+    ∷ hasBest threeHundreds (pos 0) 0 (record { node = 1; value = pos 100 } ∷ [])
     ∷ []

@@ -22,7 +22,7 @@ pub best-record-length : (text : List ℕ) → textRefusal text ≡ 0 → {terms
     → recordLength (length terms) ≤ 1671
 best-record-length text right best =
     let accepted = profile-accepted (setpointsOf text) (restOf text) (right-profile text right .setpoints-right) in
-    omega (arith, best-few (accepted .in-range) (accepted .slots .few-slots) best, padded-bound (accepted .slots .few-slots))
+    omega (arith, best-few (accepted .in-range) best, padded-bound (accepted .slots .few-slots))
 
 -- with 1,671 bytes or more for the record there is no 6: what is refused is the text
 pub longest-fits : {text before after : List ℕ} {number : ℕ} (answer : TextToRecord text before after number) → 1671 ≤ length before

@@ -77,7 +77,6 @@ module _ (profile : List ℤ) {bytes : List ℕ} {answer : HeaderAnswer} {nodes 
       same-length =
           Accepted.nodes-counted read right
           ∙ sym (Accepted.values-counted read right);
-      some-slot = slots-within (length profile) inside .some-slot;
       few-slots = slots-within (length profile) inside .few-slots;
       rest-within = rest-within;
       terms-valid = rw (terms-are, ← same, slots-are, sound bytes record-right .terms-valid) tt;

@@ -16,7 +16,7 @@ use Rattle.record_check.proofs.Verdicts.{every-passes, one-fails, lowes
 
 module _ (profile restored : List ℤ) (band : ℕ) where
   pub record SoFar (largest slot : ℕ) : Type 0 where
-    pub inside : slot ≤ length restored
+    pub inside : slot ≤ length profile
     pub within : (k : ℕ) → k < slot → difference profile restored k ≤ band
     pub largest-is : largest ≡ greatest (difference profile restored) slot
     pub small : largest ≤ 40000
@@ -25,7 +25,7 @@ module _ (profile restored : List ℤ) (band : ℕ) where
   unfolding greatest
   begun = record { inside = omega arith; within = below-none (λ (k : ℕ). difference profile restored k ≤ band); largest-is = refl; small = omega arith }
 
-  pub one-more : (largest slot error : ℕ) → SoFar largest slot → slot < length restored → error ≡ difference profile restored slot → error ≤ 40000 → error ≤ band
+  pub one-more : (largest slot error : ℕ) → SoFar largest slot → slot < length profile → error ≡ difference profile restored slot → error ≤ 40000 → error ≤ band
       → SoFar (max largest error) (slot + 1)
   unfolding greatest
   one-more largest slot error so-far more is error-small near = record {
@@ -35,24 +35,24 @@ module _ (profile restored : List ℤ) (band : ℕ) where
     small = omega (arith, so-far .small);
   }
 
-  pub beyond-band : (largest slot error : ℕ) → SoFar largest slot → slot < length restored → error ≡ difference profile restored slot → band < error
+  pub beyond-band : (largest slot error : ℕ) → SoFar largest slot → slot < length profile → error ≡ difference profile restored slot → band < error
       → Compared profile restored band false 0 slot
   beyond-band largest slot error so-far more is far = record {
-    within-is = sym (one-fails (λ k. leb (difference profile restored k) band) (length restored) slot more (lt-leb (difference profile restored slot) band (omega (arith, is))));
+    within-is = sym (one-fails (λ k. leb (difference profile restored k) band) (length profile) slot more (lt-leb (difference profile restored slot) band (omega (arith, is))));
     error-is = refl;
     slot-is =
         sym
-        (lowest-is (λ k. ltb band (difference profile restored k)) (length restored) slot more
+        (lowest-is (λ k. ltb band (difference profile restored k)) (length profile) slot more
         (λ k below. le-ltb band (difference profile restored k) (so-far .within k below))
         (lt-ltb band (difference profile restored slot) (omega (arith, is))));
   }
 
-  pub all-within : (largest slot : ℕ) → SoFar largest slot → length restored ≤ slot → Compared profile restored band true largest 0
+  pub all-within : (largest slot : ℕ) → SoFar largest slot → length profile ≤ slot → Compared profile restored band true largest 0
   all-within largest slot so-far done = record {
     within-is =
         sym
-        (every-passes (λ k. leb (difference profile restored k) band) (length restored)
+        (every-passes (λ k. leb (difference profile restored k) band) (length profile)
         (λ k below. le-leb (difference profile restored k) band (so-far .within k (omega arith))));
-    error-is = let same : slot ≡ length restored = omega (arith, so-far .inside) in so-far .largest-is ∙ ap (greatest (difference profile restored)) same;
+    error-is = let same : slot ≡ length profile = omega (arith, so-far .inside) in so-far .largest-is ∙ ap (greatest (difference profile restored)) same;
     slot-is = refl;
   }

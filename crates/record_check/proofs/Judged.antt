@@ -3,7 +3,7 @@ use mathlib.Core.Path.{_≡_, ap, _∙_}
 use mathlib.Core.Bool.{Bool, cond}
 use mathlib.Core.Logic.{⊎-elim}
 use mathlib.Core.List.{List}
-use Prim.Native.Nat.{ℕ, _+_, _*_, _-_, _≤_, _<_, min}
+use Prim.Native.Nat.{ℕ, _+_, _*_, _-_, _≤_, _<_}
 use native.Mathlib.Omega.{arith}
 use lib.Dec.{leb, ltb}
 use lib.IntN.{ℤ, pos, natAbs, _-ℤ_}
@@ -15,7 +15,7 @@ use Rattle.histogram.specs.Terms.{paired}
 use Rattle.histogram.specs.Restored.{restoredAt, restoredSlot, pathNodes}
 use Rattle.histogram.specs.Errors.{setpointOf, slotError}
 use Rattle.histogram.proofs.Order.{below-or-not}
-use Rattle.histogram.proofs.Powers.{padded-bound}
+use Rattle.histogram.proofs.Powers.{height-reaches}
 use Rattle.histogram.proofs.Within.{restored-within}
 use Rattle.record_check.specs.Checking.{Verdict}
 use Rattle.record_check.specs.Inner.{difference, Comparable, Compared, Judgeable}
@@ -24,18 +24,22 @@ use Rattle.record_check.proofs.Verdicts.{every-same, lowest-same, great
 module _ (profile : List ℤ) (band : ℕ) (rest : ℤ) (nodes : List ℕ) (values : List ℤ) (asked : Judgeable profile band rest nodes values)
     (first : ℕ) (first-is : first ≡ padded (length profile)) (after : List ℤ) (room : 2 * first ≤ length after)
     (at-node : (node : ℕ) → node < 2 * first → getD after node (pos 0) ≡ restoredAt rest (paired nodes values) node) where
+  -- the part of the slots that count
   abbrev part : List ℤ
-  part = take (2 * first - first) (drop first after)
+  part = take (first + length profile - first) (drop first after)
 
-  part-long : length part ≡ first
-  part-long = simp (length-take, length-drop) (omega arith)
+  in-leaves : length profile ≤ first
+  in-leaves = omega (arith, height-reaches (length profile))
+
+  part-long : length part ≡ length profile
+  part-long = simp (length-take, length-drop) (omega (arith, in-leaves))
 
   -- what stands in a slot is what the synopsis restores there
-  slot-value : (slot : ℕ) → slot < first → getD part slot (pos 0) ≡ restoredSlot (length profile) rest (paired nodes values) slot
+  slot-value : (slot : ℕ) → slot < length profile → getD part slot (pos 0) ≡ restoredSlot (length profile) rest (paired nodes values) slot
   slot-value slot below =
-      getD-take (2 * first - first) (drop first after) slot (pos 0) (omega arith)
+      getD-take (first + length profile - first) (drop first after) slot (pos 0) (omega arith)
       ∙ getD-drop first after slot (pos 0)
-      ∙ at-node (first + slot) (omega arith)
+      ∙ at-node (first + slot) (omega (arith, in-leaves))
       ∙ ap (λ (m : ℕ). restoredAt rest (paired nodes values) (m + slot)) first-is
 
   part-within : (slot : ℕ) → natAbs (getD part slot (pos 0)) ≤ 20000
@@ -43,36 +47,31 @@ module _ (profile : List ℤ) (band : ℕ) (rest : ℤ) (nodes : List ℕ) (valu
       ⊎-elim
       (λ below. rw (slot-value slot below) (restored-within rest (paired nodes values) (record { passes = asked .terms-valid }) (asked .rest-within) (pathNodes (padded (length profile) + slot)) _))
       (λ above. rw (List·getD-eq-default part (pos 0) {n = slot} (omega (arith, part-long))) (omega arith))
-      (below-or-not slot first)
+      (below-or-not slot (length profile))
 
   pub comparable : Comparable profile part
   comparable = record {
-    some-slot = asked .some-slot;
-    few-slots = omega (arith, part-long, first-is, padded-bound (asked .few-slots));
-    profile-within = λ slot. within-all profile (asked .none-beyond) (min slot (length profile - 1));
+    same-length = part-long;
+    few-slots = asked .few-slots;
+    profile-within = within-all profile (asked .none-beyond);
     restored-within = part-within;
   }
 
-  same-error : (slot : ℕ) → slot < length part → difference profile part slot ≡ slotError profile rest (paired nodes values) slot
-  same-error slot below = ap (λ (value : ℤ). natAbs (setpointOf profile slot -ℤ value)) (slot-value slot (omega (arith, part-long)))
+  same-error : (slot : ℕ) → slot < length profile → difference profile part slot ≡ slotError profile rest (paired nodes values) slot
+  same-error slot below = ap (λ (value : ℤ). natAbs (setpointOf profile slot -ℤ value)) (slot-value slot below)
 
   pub judged : (within : Bool) (error slot : ℕ) → Compared profile part band within error slot → Verdict profile rest (paired nodes values) band within error slot
-  judged within error slot compared =
-      let long : length part ≡ padded (length profile) = part-long ∙ first-is in
-      record {
-        kept-is =
-            compared .within-is
-            ∙ every-same (λ k. leb (difference profile part k) band) (λ k. leb (slotError profile rest (paired nodes values) k) band) (length part)
-            (λ k below. ap (λ (e : ℕ). leb e band) (same-error k below))
-            ∙ rw long;
-        error-is =
-            compared .error-is
-            ∙ ap (λ (e : ℕ). cond within e 0)
-            (greatest-same (difference profile part) (slotError profile rest (paired nodes values)) (length part) same-error ∙ rw long);
-        slot-is =
-            compared .slot-is
-            ∙ ap (λ (s : ℕ). cond within 0 s)
-            (lowest-same (λ k. ltb band (difference profile part k)) (λ k. ltb band (slotError profile rest (paired nodes values) k)) (length part)
-            (λ k below. ap (ltb band) (same-error k below))
-            ∙ rw long);
-      }
+  judged within error slot compared = record {
+    kept-is =
+        compared .within-is
+        ∙ every-same (λ k. leb (difference profile part k) band) (λ k. leb (slotError profile rest (paired nodes values) k) band) (length profile)
+        (λ k below. ap (λ (e : ℕ). leb e band) (same-error k below));
+    error-is =
+        compared .error-is
+        ∙ ap (λ (e : ℕ). cond within e 0) (greatest-same (difference profile part) (slotError profile rest (paired nodes values)) (length profile) same-error);
+    slot-is =
+        compared .slot-is
+        ∙ ap (λ (s : ℕ). cond within 0 s)
+        (lowest-same (λ k. ltb band (difference profile part k)) (λ k. ltb band (slotError profile rest (paired nodes values) k)) (length profile)
+        (λ k below. ap (ltb band) (same-error k below)));
+  }

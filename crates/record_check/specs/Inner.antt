@@ -17,17 +17,17 @@ use Rattle.record_check.specs.Checking.{every, lowest}
 abbrev pub difference : List ℤ → List ℤ → ℕ → ℕ
 difference profile restored slot = natAbs (setpointOf profile slot -ℤ getD restored slot (pos 0))
 
--- setpoints and restored values that lie within ±20,000
+-- setpoints and as many restored values, all within ±20,000
 pub record Comparable (profile restored : List ℤ) : Type 0 where
-  pub some-slot : 1 ≤ length profile
-  pub few-slots : length restored ≤ 512
+  pub same-length : length restored ≡ length profile
+  pub few-slots : length profile ≤ 512
   pub profile-within : (slot : ℕ) → natAbs (setpointOf profile slot) ≤ 20000
   pub restored-within : (slot : ℕ) → natAbs (getD restored slot (pos 0)) ≤ 20000
 
--- a slot that has a restored value
+-- a slot that has a setpoint
 pub record InSlot (profile restored : List ℤ) (slot : ℕ) : Type 0 where
   pub comparable : Comparable profile restored
-  pub inside : slot < length restored
+  pub inside : slot < length profile
 
 pub record ErrorIs (profile restored : List ℤ) (slot error : ℕ) : Type 0 where
   pub is : error ≡ difference profile restored slot
@@ -35,14 +35,13 @@ pub record ErrorIs (profile restored : List ℤ) (slot error : ℕ) : Type 0 whe
 
 -- whether every difference is within the band, the greatest if so, and else the lowest slot beyond it
 pub record Compared (profile restored : List ℤ) (band : ℕ) (within : Bool) (error slot : ℕ) : Type 0 where
-  pub within-is : within ≡ every (λ place. leb (difference profile restored place) band) (length restored)
-  pub error-is : error ≡ cond within (greatest (difference profile restored) (length restored)) 0
-  pub slot-is : slot ≡ cond within 0 (lowest (λ place. ltb band (difference profile restored place)) (length restored))
+  pub within-is : within ≡ every (λ place. leb (difference profile restored place) band) (length profile)
+  pub error-is : error ≡ cond within (greatest (difference profile restored) (length profile)) 0
+  pub slot-is : slot ≡ cond within 0 (lowest (λ place. ltb band (difference profile restored place)) (length profile))
 
 -- a profile and a synopsis that can be judged
 pub record Judgeable (profile : List ℤ) (band : ℕ) (rest : ℤ) (nodes : List ℕ) (values : List ℤ) : Type 0 where
   pub same-length : length nodes ≡ length values
-  pub some-slot : 1 ≤ length profile
   pub few-slots : length profile ≤ 512
   pub rest-within : natAbs rest ≤ 20000
   pub terms-valid : T (valid (length profile) (paired nodes values))

@@ -4,7 +4,6 @@ use histogram::restore::hand_down;
 use histogram::restore::restore_checked_slot;
 use histogram::terms::padded_length;
 use limits::greater;
-use limits::smaller;
 use record_read::HeaderAnswer;
 use record_read::read_into_room;
 ghost use mathlib.Core.Path.{_≡_};
@@ -93,8 +92,8 @@ fn judge(setpoints: &[i16], band: u32, rest: i16, nodes: &[u16], values: &[i16])
 {
     let mut restored = [0i16; 1024];
     let padded = padded_length(setpoints.len());
-    let end = 2 * padded;
-    hand_down(end, rest, nodes, values, &mut restored);
+    hand_down(2 * padded, rest, nodes, values, &mut restored);
+    let end = padded + setpoints.len();
     compare(setpoints, &restored[padded..end], band)
 }
 
@@ -105,7 +104,7 @@ fn compare(setpoints: &[i16], restored: &[i16], band: u32) -> CheckAnswer
 {
     let mut greatest: u32 = 0;
     let mut slot = 0;
-    while slot < restored.len() {
+    while slot < setpoints.len() {
         let error = error_in(setpoints, restored, slot);
         if band < error {
             return CheckAnswer {
@@ -126,13 +125,12 @@ fn compare(setpoints: &[i16], restored: &[i16], band: u32) -> CheckAnswer
     }
 }
 
-// The error in one slot; slots past the last setpoint carry it.
+// The error in one slot.
 fn error_in(setpoints: &[i16], restored: &[i16], slot: usize) -> u32
     requires { ⌜ InSlot (now setpoints) (now restored) slot ⌝ }
     ensures { λ r. ⌜ ErrorIs (now (setpoints .entry)) (now (restored .entry)) slot r ⌝ }
 {
-    let place = smaller(slot, setpoints.len() - 1);
-    let setpoint = setpoints[place];
+    let setpoint = setpoints[slot];
     let value = restored[slot];
     limits::magnitude(setpoint as i32 - value as i32)
 }

@@ -135,5 +135,11 @@ pub leaf-is : (band : ℕ) (setpoint : ℤ) (low high : ℕ) → SlotEnds band s
 unfolding answer
 leaf-is band setpoint low high ends = ap₂ (single 0) (ends .low-is) (ends .high-is)
 
-pub leaf-solved : (band : ℕ) (setpoint : ℤ) (low high : ℕ) (before after : List ℤ) → SlotEnds band setpoint low high → SingleAt 0 0 low high before after → LeafSolved (slotWindow band setpoint) after
+pub leaf-solved : (band : ℕ) (setpoint : ℤ) (low high : ℕ) (before after : List ℤ) → SlotEnds band setpoint low high → SingleAt 0 0 low high before after
+    → LeafSolved (slotWindow band setpoint ∷ []) after
 leaf-solved band setpoint low high before after ends written = record { answer-is = written .answer-is ∙ leaf-is band setpoint low high ends }
+
+-- the answer of a filler leaf
+pub filler-solved : (before after : List ℤ) → SingleAt 0 0 0 40000 before after → LeafSolved [] after
+unfolding answer
+filler-solved before after written = record { answer-is = written .answer-is }

@@ -9,3 +9,4 @@ pub mod Rows
 pub mod Solving
 pub mod Counting
 pub mod Pairs
+pub mod FewSlots

@@ -1,5 +1,5 @@
 -- Two leaves and the node above them: its answer from their two windows, and the stretch that is then solved.
-use mathlib.Core.Path.{_≡_, refl, sym, ap, ap₂, _∙_}
+use mathlib.Core.Path.{_≡_, refl, sym, ap₂, _∙_}
 use mathlib.Core.Bool.{Bool, true, false, cond}
 use mathlib.Core.List.{List, [], _∷_}
 use Prim.Native.Nat.{ℕ, zero, suc, _+_, _-_, _^_, _≤_, _<_, min, max}
@@ -10,7 +10,7 @@ use borrow.Author.Tests.{le-leb, lt-leb, lt-ltb, le-ltb}
 use Rattle.windows.specs.Windows.{Window, meet, join}
 use Rattle.windows.specs.Scratch.{at}
 use Rattle.subtree.specs.Answer.{Answer, slotWindow, slotWindows, combined, answer}
-use Rattle.subtree.specs.Stretch.{places, answerAt, Solved, Halves, Planned, above}
+use Rattle.subtree.specs.Stretch.{places, answerAt, Solved, Planned, above}
 use Rattle.subtree.specs.Pair.{oneWindow, single, SlotEnds, SingleAt, DoubleWritten, SinglesCombined, PairSolved}
 use Rattle.subtree.proofs.Places.{planned}
 use Rattle.subtree.proofs.LeafAnswers.{leaf-is}
@@ -21,40 +21,41 @@ neither true = refl
 neither false = refl
 
 -- the node's answer, where two windows meet and where they do not
-module _ (numbers left-low left-high right-low right-high low high : ℕ) (low-is : low ≡ max left-low right-low) (high-is : high ≡ min left-high right-high) (before after : List ℤ) where
+module _ (numbers left-low left-high right-low right-high low high : ℕ) (low-is : low ≡ max left-low right-low) (high-is : high ≡ min left-high right-high) where
   abbrev node : Answer
   node = above numbers (oneWindow left-low left-high) (oneWindow right-low right-high)
 
   sum : numbers + 0 ≡ numbers
   sum = omega arith
 
-  both-met : low ≤ high → single numbers low high ≡ node
+  pub both-met : low ≤ high → single numbers low high ≡ node
   unfolding meet
   both-met met = rw (← low-is, ← high-is, le-leb low high met, neither, sum)
-
-  pub singles-meet : low ≤ high → SingleAt 0 numbers low high before after → SinglesCombined numbers left-low left-high right-low right-high before after
-  singles-meet met written = record {
-    answer-is = written .answer-is ∙ both-met met;
-    behind-same = λ other behind. written .behind-same other (omega arith);
-  }
 
   right-first : high < low → right-low < left-low
       → record { number = numbers + 1; windows = record { low = right-low; high = right-high } ∷ record { low = left-low; high = left-high } ∷ [] } ≡ node
   unfolding meet join
   right-first apart lower = rw (← low-is, ← high-is, lt-leb low high apart, neither, lt-ltb right-low left-low lower, sum)
 
-  pub right-lower : high < low → right-low < left-low → DoubleWritten (numbers + 1) right-low right-high left-low left-high before after
-      → SinglesCombined numbers left-low left-high right-low right-high before after
-  right-lower apart lower written = record { answer-is = written .answer-is ∙ right-first apart lower; behind-same = written .behind-same }
-
   left-first : high < low → left-low ≤ right-low
       → record { number = numbers + 1; windows = record { low = left-low; high = left-high } ∷ record { low = right-low; high = right-high } ∷ [] } ≡ node
   unfolding meet join
   left-first apart lower = rw (← low-is, ← high-is, lt-leb low high apart, neither, le-ltb right-low left-low lower, sum)
 
-  pub left-lower : high < low → left-low ≤ right-low → DoubleWritten (numbers + 1) left-low left-high right-low right-high before after
-      → SinglesCombined numbers left-low left-high right-low right-high before after
-  left-lower apart lower written = record { answer-is = written .answer-is ∙ left-first apart lower; behind-same = written .behind-same }
+  module _ (before after : List ℤ) where
+    pub singles-meet : low ≤ high → SingleAt 0 numbers low high before after → SinglesCombined numbers left-low left-high right-low right-high before after
+    singles-meet met written = record {
+      answer-is = written .answer-is ∙ both-met met;
+      behind-same = λ other behind. written .behind-same other (omega arith);
+    }
+
+    pub right-lower : high < low → right-low < left-low → DoubleWritten (numbers + 1) right-low right-high left-low left-high before after
+        → SinglesCombined numbers left-low left-high right-low right-high before after
+    right-lower apart lower written = record { answer-is = written .answer-is ∙ right-first apart lower; behind-same = written .behind-same }
+
+    pub left-lower : high < low → left-low ≤ right-low → DoubleWritten (numbers + 1) left-low left-high right-low right-high before after
+        → SinglesCombined numbers left-low left-high right-low right-high before after
+    left-lower apart lower written = record { answer-is = written .answer-is ∙ left-first apart lower; behind-same = written .behind-same }
 
 -- an answer of one window stays while the places that it stands at do
 still-single : (place low high : ℕ) (before written after : List ℤ) → SingleAt place 0 low high before written
@@ -74,35 +75,32 @@ pair-solved band left right left-low left-high right-low right-high before first
     record {
       all-solved = (
         of-both .answer-is ∙ ap₂ combined left-is right-is,
-        answer-shifted (at after) 6
-            ∙ still-single 6 left-low left-high before first after of-left (λ other above below. of-both .behind-same other above ∙ of-right .before-same other below) ∙ left-is,
-        answer-shifted (at after) 10
-            ∙ still-single 10 right-low right-high first second after of-right (λ other above below. of-both .behind-same other (omega arith)) ∙ right-is,
+        λ some. (
+          answer-shifted (at after) 6
+              ∙ still-single 6 left-low left-high before first after of-left (λ other above below. of-both .behind-same other above ∙ of-right .before-same other below) ∙ left-is,
+          answer-shifted (at after) 10
+              ∙ still-single 10 right-low right-high first second after of-right (λ other above below. of-both .behind-same other (omega arith)) ∙ right-is,
+        ),
       );
     }
 
--- a node of height 1 has two slots, and 14 places
-pub two-slots : (height : ℕ) → 0 < height → height ≤ 1 → 2 ^ height ≡ 2
-two-slots zero some few = absurd (omega arith)
-two-slots (suc zero) some few = refl
-two-slots (suc (suc height)) some few = absurd (omega arith)
-
-pub pair-places : (height : ℕ) → 0 < height → height ≤ 1 → places height ≡ 14
+-- two slots below a node of height 1 at the most are the two that it has, and it has 14 places
+pub pair-places : (height : ℕ) → 2 ≤ 2 ^ height → height ≤ 1 → places height ≡ 14
 unfolding places
-pair-places zero some few = absurd (omega arith)
-pair-places (suc zero) some few = refl
-pair-places (suc (suc height)) some few = absurd (omega arith)
+pair-places zero two few = absurd (omega arith)
+pair-places (suc zero) two few = refl
+pair-places (suc (suc height)) two few = absurd (omega arith)
 
-pub pair-whole : (band height : ℕ) (setpoints after : List ℤ) → 0 < height → height ≤ 1 → length setpoints ≡ 2 ^ height
+pub pair-whole : (band height : ℕ) (setpoints after : List ℤ) → height ≤ 1 → 2 ≤ length setpoints → length setpoints ≤ 2 ^ height
     → PairSolved (slotWindow band (getD setpoints 0 (pos 0))) (slotWindow band (getD setpoints 1 (pos 0))) after → Solved height (slotWindows band setpoints) (at after)
-pair-whole band zero setpoints after some few slots pair = absurd (omega arith)
-pair-whole band (suc zero) [] after some few slots pair = absurd (omega arith)
-pair-whole band (suc zero) (left ∷ []) after some few slots pair = absurd (omega arith)
-pair-whole band (suc zero) (left ∷ right ∷ []) after some few slots pair = pair .all-solved
-pair-whole band (suc zero) (left ∷ right ∷ more ∷ others) after some few slots pair = absurd (omega arith)
-pair-whole band (suc (suc height)) setpoints after some few slots pair = absurd (omega arith)
+pair-whole band zero setpoints after few two slots pair = absurd (omega arith)
+pair-whole band (suc zero) [] after few two slots pair = absurd (omega arith)
+pair-whole band (suc zero) (left ∷ []) after few two slots pair = absurd (omega arith)
+pair-whole band (suc zero) (left ∷ right ∷ []) after few two slots pair = pair .all-solved
+pair-whole band (suc zero) (left ∷ right ∷ more ∷ others) after few two slots pair = absurd (omega arith)
+pair-whole band (suc (suc height)) setpoints after few two slots pair = absurd (omega arith)
 
--- ---- two pairs below a node of four slots
+-- ---- a pair and what there is of a second one, below a node of four leaves
 
 pub four-places : places 2 ≡ 38
 unfolding places
@@ -112,26 +110,17 @@ pub four-planned : Planned 2 2 10 24 38
 unfolding places
 four-planned = planned 2 2 14 (omega arith) (omega arith) refl refl
 
--- each pair is solved in its part
-pub pairs-solved : (band : ℕ) (setpoints left right : List ℤ) → length setpoints ≡ 4
-    → PairSolved (slotWindow band (getD setpoints 0 (pos 0))) (slotWindow band (getD setpoints 1 (pos 0))) left
-    → PairSolved (slotWindow band (getD setpoints 2 (pos 0))) (slotWindow band (getD setpoints 3 (pos 0))) right
-    → Solved 1 (take 2 (slotWindows band setpoints)) (at left) × Solved 1 (drop 2 (slotWindows band setpoints)) (at right)
-pairs-solved band [] left right slots of-left of-right = absurd (omega arith)
-pairs-solved band (a ∷ []) left right slots of-left of-right = absurd (omega arith)
-pairs-solved band (a ∷ b ∷ []) left right slots of-left of-right = absurd (omega arith)
-pairs-solved band (a ∷ b ∷ c ∷ []) left right slots of-left of-right = absurd (omega arith)
-pairs-solved band (a ∷ b ∷ c ∷ d ∷ []) left right slots of-left of-right = (of-left .all-solved, of-right .all-solved)
-pairs-solved band (a ∷ b ∷ c ∷ d ∷ e ∷ others) left right slots of-left of-right = absurd (omega arith)
+module _ (band : ℕ) where
+  -- the first pair
+  pub first-solved : (setpoints left : List ℤ) → 2 ≤ length setpoints
+      → PairSolved (slotWindow band (getD setpoints 0 (pos 0))) (slotWindow band (getD setpoints 1 (pos 0))) left → Solved 1 (take 2 (slotWindows band setpoints)) (at left)
+  first-solved [] left two pair = absurd (omega arith)
+  first-solved (a ∷ []) left two pair = absurd (omega arith)
+  first-solved (a ∷ b ∷ others) left two pair = pair .all-solved
 
--- and both are what a node of height 2 asks of its children
-pub pairs-below : (height half own middle end : ℕ) (leaves : List Window) (scratch : List ℤ) → 1 < height → height ≤ 2 → Planned height half own middle end
-    → Halves 1 10 24 leaves scratch → Halves (height - 1) own middle leaves scratch
-unfolding places
-pairs-below zero half own middle end leaves scratch some few of-node pairs = absurd (omega arith)
-pairs-below (suc zero) half own middle end leaves scratch some few of-node pairs = absurd (omega arith)
-pairs-below (suc (suc zero)) half own middle end leaves scratch some few of-node pairs =
-    let own-is : own ≡ 10 = of-node .own-is in
-    let middle-is : middle ≡ 24 = of-node .middle-is ∙ ap (λ (start : ℕ). start + 14) own-is in
-    rw (own-is, middle-is) pairs
-pairs-below (suc (suc (suc height))) half own middle end leaves scratch some few of-node pairs = absurd (omega arith)
+  -- the second one, where it is whole
+  pub second-solved : (setpoints right : List ℤ) → length setpoints ≡ 4
+      → PairSolved (slotWindow band (getD setpoints 2 (pos 0))) (slotWindow band (getD setpoints 3 (pos 0))) right → Solved 1 (drop 2 (slotWindows band setpoints)) (at right)
+  second-solved [] right four pair = absurd (omega arith)
+  second-solved (a ∷ []) right four pair = absurd (omega arith)
+  second-solved (a ∷ b ∷ others) right four pair = pair-whole band 1 others right (omega arith) (omega arith) (omega arith) pair

@@ -1,31 +1,33 @@
 -- The answer of a subtree is what the theory of fewest terms says of its node, document 000, section 6.1: `answer-row`.
--- So what the whole tree needs is the number of fewest terms: `needed-is-fewest`.
+-- So what the whole tree needs is the number of fewest terms: `needed-is-fewest`, and over a profile `profile-needs`.
 use mathlib.Core.Path.{_≡_, refl, sym, ap, subst, _∙_}
-use mathlib.Core.Bool.{Bool, true, false, _&&_, or-false}
+use mathlib.Core.Bool.{Bool, true, false, _&&_, _||_, or-false}
+use mathlib.Core.Logic.{⊎-elim}
 use mathlib.Core.List.{List, [], _∷_}
 use Prim.Native.Nat.{ℕ, zero, suc, _+_, _*_, _-_, _^_, _≤_, _<_, min}
 use native.Mathlib.Nat.{add-mul, mul-assoc, mul-left-comm}
 use native.Mathlib.Omega.{arith}
 use lib.Dec.{T, leb}
 use borrow.Author.Tests.{leb-true, leb-false, le-leb, lt-leb}
-use lib.IntN.{ℤ, pos}
-use lib.ListN.{length, getD, take, drop}
+use lib.IntN.{ℤ}
+use lib.ListN.{length, getD, take, drop, length-map, List·getD-eq-default}
 use lib.Seq.{getD-drop, getD-take}
 use mir.Facts.{and-yes}
-use Rattle.histogram.specs.Tree.{padded}
-use Rattle.histogram.specs.Errors.{setpointOf}
+use Rattle.histogram.specs.Tree.{height, padded}
+use Rattle.histogram.specs.Errors.{slotsOf, setpointOf}
+use Rattle.histogram.proofs.Order.{below-or-not}
 use Rattle.fewest.specs.Tree.{binary}
 use Rattle.fewest.specs.Cost.{cost, fewest}
 use Rattle.fewest.specs.Row.{Inhabited, Row}
 use Rattle.fewest.proofs.Rows.{same-set, row-needs, leaf-row}
 use Rattle.fewest.proofs.Meeting.{sets-meet, sets-apart}
-use Rattle.claims.specs.Inner.{lifted, distance, accepts}
+use Rattle.claims.specs.Inner.{lifted, distance, accepts, fewestTerms, InRange}
 use Rattle.claims.proofs.Lifted.{lifted-within}
 use Rattle.windows.specs.Windows.{Window, inside, covers, Sorted, meet}
 use Rattle.windows.proofs.Sets.{covers-meet, covers-join, first-within, first-inside, sorted-meet}
-use Rattle.subtree.specs.Answer.{Answer, slotWindows, everyValue, combinedBy, combined, answer, needed}
+use Rattle.subtree.specs.Answer.{Answer, slotWindow, slotWindows, everyValue, combinedBy, combined, answer, needed, termsFor}
 use Rattle.subtree.specs.Stretch.{Within, Usable}
-use Rattle.subtree.proofs.Slots.{window-at}
+use Rattle.subtree.proofs.Slots.{window-at, windows-usable}
 use Rattle.subtree.proofs.Answers.{apart, usable-take, usable-drop, answer-sorted}
 
 -- the windows of the leaves below a node of a height: each holds what its leaf accepts
@@ -116,13 +118,34 @@ module _ (accept : ℕ → ℕ → Bool) where
       → needed (answer height leaves) rest ≡ fewest binary accept 40000 height rest
   needed-is-fewest height usable below rest within = sym (row-needs (answer-row height 1 usable below) rest within)
 
--- the slots of a profile accept what is in their windows
-pub slots-below : (profile : List ℤ) (band height node : ℕ) {setpoints : List ℤ} → Within setpoints → length setpoints ≡ 2 ^ height
-    → ((slot : ℕ) → slot < 2 ^ height → getD setpoints slot (pos 0) ≡ setpointOf profile (node * 2 ^ height + slot - padded (length profile)))
-    → Below (accepts profile band) height node (slotWindows band setpoints)
-slots-below profile band height node {setpoints} within long each-is = record {
+-- the leaves over a profile accept what is in the windows of its slots, and filler every value
+pub slots-below : (profile : List ℤ) (band : ℕ) → Within profile → Below (accepts profile band) (height (length profile)) 1 (slotWindows band profile)
+slots-below profile band within = record {
   each = λ slot inside-tree value value-within.
-      ap (λ (z : ℤ). leb (distance (lifted z) value) band) (sym (each-is slot inside-tree))
-      ∙ near-is-inside band (lifted (getD setpoints slot (pos 0))) value (lifted-within (getD setpoints slot (pos 0)) (within .each slot)) value-within
-      ∙ ap (λ (window : Window). inside window value) (sym (window-at band setpoints slot (omega arith)));
+      let here : 1 * 2 ^ height (length profile) + slot - padded (length profile) ≡ slot = omega arith in
+      rw here (accepted slot value value-within);
 }
+  where
+    windows-long : length (slotWindows band profile) ≡ length profile
+    windows-long = length-map profile (slotWindow band)
+
+    accepted : (slot value : ℕ) → value ≤ 40000
+        → (leb (slotsOf profile) slot || leb (distance (lifted (setpointOf profile slot)) value) band) ≡ inside (getD (slotWindows band profile) slot everyValue) value
+    accepted slot value value-within =
+        ⊎-elim
+        (λ counts.
+        rw (lt-leb (slotsOf profile) slot counts, window-at band profile slot counts)
+        (near-is-inside band (lifted (setpointOf profile slot)) value (lifted-within (setpointOf profile slot) (within .each slot)) value-within))
+        (λ past.
+        rw (le-leb (slotsOf profile) slot past, List·getD-eq-default (slotWindows band profile) everyValue {n = slot} (omega (arith, windows-long)), le-leb 0 value (omega arith), le-leb value 40000 value-within))
+        (below-or-not slot (slotsOf profile))
+
+-- so the terms that the tree over a profile needs for a band are the fewest terms
+module _ {profile : List ℤ} {rest : ℤ} (in-range : InRange profile rest) where
+  pub profile-within : Within profile
+  profile-within = record { each = in-range .setpoints-within }
+
+  pub profile-needs : (band : ℕ) → termsFor band (height (length profile)) profile (lifted rest) ≡ fewestTerms profile rest band
+  profile-needs band =
+      needed-is-fewest (accepts profile band) (height (length profile)) (windows-usable band profile-within) (slots-below profile band profile-within) (lifted rest)
+      (lifted-within rest (in-range .rest-within))

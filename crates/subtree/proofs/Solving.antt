@@ -1,22 +1,19 @@
 -- A solved stretch: it may be read otherwise, as a part of scratch, and it is made of the children's stretches and the node's answer.
 use mathlib.Core.Path.{_≡_, sym, ap, ap₂, subst, _∙_}
-use mathlib.Core.List.{List, [], _∷_}
-use Prim.Native.Nat.{ℕ, zero, suc, _+_, _*_, _-_, _^_, _≤_, _<_}
+use mathlib.Core.List.{List}
+use Prim.Native.Nat.{ℕ, zero, suc, _+_, _*_, _-_, _^_, _≤_, _<_, min}
 use native.Mathlib.Omega.{arith}
-use lib.IntN.{ℤ, pos}
-use lib.ListN.{length, getD, take, drop}
+use lib.IntN.{ℤ}
+use lib.ListN.{length, take, drop, length-take}
 use lib.Pow.{pow-mono}
-use lib.Seq.{length-take-le}
 use borrow.Rule.Slice.PartMut.{putMid, mid-len, same-len-mid}
-use Rattle.limits.proofs.Parts.{to-end}
 use Rattle.windows.specs.Windows.{Window, Sorted}
 use Rattle.windows.specs.Scratch.{at, windowsAt}
 use Rattle.windows.proofs.Reading.{windows-same, windows-shifted, windows-length}
-use Rattle.subtree.specs.Answer.{Answer, slotWindow, slotWindows, combined, answer}
-use Rattle.subtree.specs.Stretch.{ownPlaces, places, answerAt, Solved, Halves, Usable, Within, Solvable, Planned, LeafSolved, Combinable, CombinedAt}
+use Rattle.subtree.specs.Answer.{Answer, combined, answer}
+use Rattle.subtree.specs.Stretch.{ownPlaces, places, answerAt, Solved, Halves, Usable, Solvable, Planned, Combinable, CombinedAt}
 use Rattle.subtree.proofs.Places.{places-above, own-first}
 use Rattle.subtree.proofs.Lent.{in-part, before-part}
-use Rattle.subtree.proofs.Slots.{window-at}
 use Rattle.subtree.proofs.Answers.{Bounded, answer-bounded, answer-sorted, within-take, within-drop, usable-take, usable-drop}
 
 -- the answer of the node at the top
@@ -57,10 +54,12 @@ solved-same zero leaves read other same solved = top-same zero leaves read other
 solved-same (suc height) leaves read other same solved =
     let own : ℕ = ownPlaces (suc height) in (
       top-same (suc height) leaves read other same (solved .0),
-      solved-same height (take (2 ^ height) leaves) (λ place. read (own + place)) (λ place. other (own + place))
-          (λ place inside. same (own + place) (omega (arith, places-above height))) (solved .1),
-      solved-same height (drop (2 ^ height) leaves) (λ place. read (own + places height + place)) (λ place. other (own + places height + place))
-          (λ place inside. same (own + places height + place) (omega (arith, places-above height))) (solved .2),
+      λ some. (
+        solved-same height (take (2 ^ height) leaves) (λ place. read (own + place)) (λ place. other (own + place))
+            (λ place inside. same (own + place) (omega (arith, places-above height))) (solved .1 some .0),
+        solved-same height (drop (2 ^ height) leaves) (λ place. read (own + places height + place)) (λ place. other (own + places height + place))
+            (λ place inside. same (own + places height + place) (omega (arith, places-above height))) (solved .1 some .1),
+      ),
     )
 
 -- the answers of the two children in the stretch of the node above them
@@ -111,12 +110,22 @@ module _ (height own middle : ℕ) (leaves : List Window) (both : List ℤ) (hal
       let left-is = child-answer height own (take (2 ^ height) leaves) (at both) (halves .left-solved) in
       let right-is = child-answer height middle (drop (2 ^ height) leaves) (at both) (halves .right-solved) in (
         combined-at .answer-is ∙ ap₂ combined left-is right-is,
-        solved-same height (take (2 ^ height) leaves) (λ place. at both (own + place)) (λ place. at after (ownPlaces (suc height) + place))
-            (λ place inside. sym (combined-at .others-same (own + place) (omega arith)) ∙ ap (λ (start : ℕ). at after (start + place)) own-is) (halves .left-solved),
-        solved-same height (drop (2 ^ height) leaves) (λ place. at both (middle + place)) (λ place. at after (ownPlaces (suc height) + places height + place))
-            (λ place inside. sym (combined-at .others-same (middle + place) (omega arith)) ∙ ap (λ (start : ℕ). at after (start + place)) (middle-is ∙ ap (λ (start : ℕ). start + places height) own-is))
-            (halves .right-solved),
+        λ some. (
+          solved-same height (take (2 ^ height) leaves) (λ place. at both (own + place)) (λ place. at after (ownPlaces (suc height) + place))
+              (λ place inside. sym (combined-at .others-same (own + place) (omega arith)) ∙ ap (λ (start : ℕ). at after (start + place)) own-is) (halves .left-solved),
+          solved-same height (drop (2 ^ height) leaves) (λ place. at both (middle + place)) (λ place. at after (ownPlaces (suc height) + places height + place))
+              (λ place inside. sym (combined-at .others-same (middle + place) (omega arith)) ∙ ap (λ (start : ℕ). at after (start + place)) (middle-is ∙ ap (λ (start : ℕ). start + places height) own-is))
+              (halves .right-solved),
+        ),
       )
+
+-- the children's stretches, which begin at `left` and `right` in the node's, are solved, and the node's is as long as before
+pub record ChildrenSolved (height left right : ℕ) (leaves : List Window) (before scratch : List ℤ) : Type 0 where
+  pub half : ℕ
+  pub end : ℕ
+  pub planned : Planned height half left right end
+  pub both : Halves (height - 1) left right leaves scratch
+  pub same-length : length scratch ≡ length before
 
 -- the two halves of a stretch after each was lent, solved, and came back
 module _ (height half own middle end : ℕ) (leaves : List Window) (scratch left right : List ℤ) (planned : Planned height half own middle end) (fits : end ≤ length scratch)
@@ -131,7 +140,7 @@ module _ (height half own middle end : ℕ) (leaves : List Window) (scratch left
   first-length : length first-back ≡ length scratch
   first-length = same-len-mid own (middle - own) scratch left left-kept
 
-  pub both-length : length both-back ≡ length scratch
+  both-length : length both-back ≡ length scratch
   both-length = same-len-mid middle (end - middle) first-back right right-kept ∙ first-length
 
   left-long : length left ≡ middle - own
@@ -157,42 +166,45 @@ module _ (height half own middle end : ℕ) (leaves : List Window) (scratch left
             (subst (λ (count : ℕ). Solved (height - 1) (drop count leaves) (at right)) (planned .half-is) right-solved);
       }
 
+  pub children-back : Solved (height - 1) (take half leaves) (at left) → Solved (height - 1) (drop half leaves) (at right) → ChildrenSolved height own middle leaves scratch both-back
+  children-back left-solved right-solved = record { half = half; end = end; planned = planned; both = halves left-solved right-solved; same-length = both-length }
+
 -- once the answers of both children are combined, the whole stretch is solved
-module _ (height half own middle end : ℕ) (leaves : List Window) (both : List ℤ) (planned : Planned height half own middle end) (of-halves : Halves (height - 1) own middle leaves both) where
-  pub whole-solved : (after : List ℤ) → CombinedAt both after own middle → Solved height leaves (at after)
+module _ {height left right : ℕ} {leaves : List Window} {before scratch : List ℤ} (solved : ChildrenSolved height left right leaves before scratch) where
+  of-node : Planned height (solved .half) left right (solved .end)
+  of-node = solved .planned
+
+  own-first-place : left ≡ ownPlaces (suc (height - 1))
+  own-first-place = of-node .own-is ∙ ap ownPlaces (of-node .below)
+
+  pub whole-solved : (after : List ℤ) → CombinedAt scratch after left right → Solved height leaves (at after)
   whole-solved after combined-at =
-      subst (λ (levels : ℕ). Solved levels leaves (at after)) (sym (planned .below))
-      (node-solved (height - 1) own middle leaves both of-halves after (planned .own-is ∙ ap ownPlaces (planned .below)) (planned .middle-is) combined-at)
+      subst (λ (levels : ℕ). Solved levels leaves (at after)) (sym (of-node .below))
+      (node-solved (height - 1) left right leaves scratch (solved .both) after own-first-place (of-node .middle-is) combined-at)
 
-  pub halves-combinable : Usable leaves → height ≤ 9 → end ≤ length both → Combinable both own middle
-  halves-combinable usable in-tree fits =
-      combinable (height - 1) own middle leaves both of-halves usable (planned .own-is ∙ ap ownPlaces (planned .below)) (planned .middle-is)
-      (omega (arith, planned .end-is)) (omega (arith, planned .end-is, planned .few-places)) (omega arith)
+  pub children-combinable : Usable leaves → height ≤ 9 → places height ≤ length before → Combinable scratch left right
+  children-combinable usable in-tree fits =
+      combinable (height - 1) left right leaves scratch (solved .both) usable own-first-place (of-node .middle-is)
+      (omega (arith, of-node .end-is, of-node .all-places, solved .same-length)) (omega (arith, of-node .end-is, of-node .few-places)) (omega arith)
 
--- what solving asks of each half
-module _ (band height half own middle end : ℕ) (setpoints scratch : List ℤ) (planned : Planned height half own middle end) (solvable : Solvable band height setpoints scratch) where
-  pub left-solvable : Solvable band (height - 1) (take half setpoints) (take (middle - own) (drop own scratch))
+-- what solving asks of each half, where the setpoints are cut at the left child's or at their end
+module _ (band height half own middle end cut : ℕ) (setpoints scratch : List ℤ) (planned : Planned height half own middle end) (solvable : Solvable band height setpoints scratch)
+    (cut-is : cut ≡ min half (length setpoints)) where
+  pub left-solvable : Solvable band (height - 1) (take cut setpoints) (take (middle - own) (drop own scratch))
   left-solvable = record {
-    slots = length-take-le half setpoints (omega (arith, solvable .slots, planned .both-halves)) ∙ planned .half-is;
-    setpoints-within = within-take (solvable .setpoints-within) half;
+    few-slots = omega (arith, length-take cut setpoints, planned .half-is);
+    setpoints-within = within-take (solvable .setpoints-within) cut;
     band-within = solvable .band-within;
     in-tree = omega (arith, solvable .in-tree);
     room = omega (arith, mid-len own middle scratch (omega (arith, solvable .room, planned .all-places, planned .end-is)), planned .middle-is);
   }
 
-  pub right-solvable : (later : List ℤ) → length later ≡ length scratch
-      → Solvable band (height - 1) (take (length setpoints - half) (drop half setpoints)) (take (end - middle) (drop middle later))
-  right-solvable later same-length = record {
-    slots = mid-len half (length setpoints) setpoints (omega arith) ∙ omega (arith, solvable .slots, planned .both-halves, planned .half-is);
-    setpoints-within = subst Within (sym (to-end half setpoints)) (within-drop (solvable .setpoints-within) half);
+  pub right-solvable : (all : ℕ) → all ≡ length setpoints → (later : List ℤ) → length later ≡ length scratch
+      → Solvable band (height - 1) (take (all - cut) (drop cut setpoints)) (take (end - middle) (drop middle later))
+  right-solvable all all-are later same-length = record {
+    few-slots = omega (arith, mid-len cut all setpoints (omega arith), solvable .few-slots, planned .both-halves, planned .half-is);
+    setpoints-within = within-take (within-drop (solvable .setpoints-within) cut) (all - cut);
     band-within = solvable .band-within;
     in-tree = omega (arith, solvable .in-tree);
     room = omega (arith, mid-len middle end later (omega (arith, solvable .room, planned .all-places)), planned .end-is);
   }
-
--- a leaf's stretch is solved by its answer
-pub leaf-whole : (band height : ℕ) (setpoints after : List ℤ) → height ≤ 0 → 0 < length setpoints → LeafSolved (slotWindow band (getD setpoints 0 (pos 0))) after
-    → Solved height (slotWindows band setpoints) (at after)
-unfolding Solved answer
-leaf-whole band zero setpoints after none some leaf = leaf .answer-is ∙ ap (λ (window : Window). answer 0 (window ∷ [])) (sym (window-at band setpoints 0 some))
-leaf-whole band (suc height) setpoints after none some leaf = absurd (omega arith)

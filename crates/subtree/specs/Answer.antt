@@ -21,7 +21,7 @@ slotWindow band setpoint = record { low = lifted setpoint - band; high = min (li
 abbrev pub slotWindows : ℕ → List ℤ → List Window
 slotWindows band setpoints = map (slotWindow band) setpoints
 
--- every value: the window of a leaf that no slot stands at
+-- every value: the window of a filler leaf
 abbrev pub everyValue : Window
 everyValue = record { low = 0; high = 40000 }
 
@@ -33,7 +33,7 @@ combinedBy (window ∷ windows) left right = record { number = left .number + ri
 abbrev pub combined : Answer → Answer → Answer
 combined left right = combinedBy (meet (left .windows) (right .windows)) left right
 
--- the answer for a subtree of a height over the windows of its leaves
+-- the answer for a subtree of a height over the windows of its slots; the leaves past them are filler
 unfoldable pub answer : ℕ → List Window → Answer
 answer zero leaves = record { number = 0; windows = getD leaves 0 everyValue ∷ [] }
 answer (suc height) leaves = combined (answer height (take (2 ^ height) leaves)) (answer height (drop (2 ^ height) leaves))

@@ -22,13 +22,14 @@ places (suc height) = ownPlaces (suc height) + places height + places height
 abbrev pub answerAt : (ℕ → ℕ) → ℕ → Answer
 answerAt read place = record { number = read place; windows = windowsAt read (place + 2) (read (place + 1)) }
 
--- the stretch holds the answer of every node of the subtree
+-- the stretch holds the answer of the subtree's top and, where terms are needed below it, those of its two halves
 unfoldable pub Solved : ℕ → List Window → (ℕ → ℕ) → Type 0
 Solved zero leaves read = answerAt read 0 ≡ answer zero leaves
 Solved (suc height) leaves read =
     (answerAt read 0 ≡ answer (suc height) leaves)
-    × Solved height (take (2 ^ height) leaves) (λ place. read (ownPlaces (suc height) + place))
-    × Solved height (drop (2 ^ height) leaves) (λ place. read (ownPlaces (suc height) + places height + place))
+    × (0 < answer (suc height) leaves .number
+    → Solved height (take (2 ^ height) leaves) (λ place. read (ownPlaces (suc height) + place))
+    × Solved height (drop (2 ^ height) leaves) (λ place. read (ownPlaces (suc height) + places height + place)))
 
 -- the stretches of a node's two children are solved, in the node's stretch
 pub record Halves (height own middle : ℕ) (leaves : List Window) (scratch : List ℤ) : Type 0 where
@@ -43,9 +44,9 @@ pub record Usable (leaves : List Window) : Type 0 where
 pub record Within (setpoints : List ℤ) : Type 0 where
   pub each : (slot : ℕ) → natAbs (getD setpoints slot (pos 0)) ≤ 20000
 
--- one setpoint a slot, a band, and a stretch for the subtree
+-- no more setpoints than the subtree has leaves, a band, and a stretch for the subtree
 pub record Solvable (band height : ℕ) (setpoints scratch : List ℤ) : Type 0 where
-  pub slots : length setpoints ≡ 2 ^ height
+  pub few-slots : length setpoints ≤ 2 ^ height
   pub setpoints-within : Within setpoints
   pub band-within : band ≤ 40000
   pub in-tree : height ≤ 9
@@ -68,9 +69,9 @@ pub record Headed (number count : ℕ) (before after : List ℤ) : Type 0 where
   pub count-is : at after 1 ≡ count
   pub others-same : (place : ℕ) → 2 ≤ place → at after place ≡ at before place
 
--- the answer of a leaf
-pub record LeafSolved (leaf : Window) (scratch : List ℤ) : Type 0 where
-  pub answer-is : answerAt (at scratch) 0 ≡ answer 0 (leaf ∷ [])
+-- the answer of a leaf, by the window of its slot or with none
+pub record LeafSolved (leaves : List Window) (scratch : List ℤ) : Type 0 where
+  pub answer-is : answerAt (at scratch) 0 ≡ answer 0 leaves
 
 -- the answers of two children in one stretch, below place 65,536, and room for the answer of the node above them
 pub record Combinable (scratch : List ℤ) (left right : ℕ) : Type 0 where
@@ -98,7 +99,7 @@ pub record ListsCombined (numbers left lefts right rights : ℕ) (before after :
   pub answer-is : answerAt (at after) 0 ≡ above numbers (windowsAt (at before) left lefts) (windowsAt (at before) right rights)
   pub others-same : (place : ℕ) → 2 + 2 * (lefts + rights) ≤ place → at after place ≡ at before place
 
--- the terms that the tree needs over its leaves, with every answer in scratch
+-- the terms that the tree needs over its leaves, with its answers in scratch
 pub record Counted (height value : ℕ) (leaves : List Window) (scratch : List ℤ) (count : ℕ) : Type 0 where
   pub count-is : count ≡ needed (answer height leaves) value
   pub solved : Solved height leaves (at scratch)

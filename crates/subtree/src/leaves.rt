@@ -1,14 +1,16 @@
-// The lowest answers of the bottom-up pass: of a leaf, and of two leaves and the node above them, written with no recursion and no loop.
+// The lowest answers of the bottom-up pass: of one slot or none, and of two slots and the node above them, written with no recursion and no loop.
 use crate::lift;
 use crate::node::Ends;
 use crate::node::combine_singles;
 use crate::node::write_single;
 ghost use mathlib.Core.Path.{_≡_};
+ghost use mathlib.Core.List.{[], _∷_};
 ghost use Prim.Native.Nat.{_+_, _-_, _≤_, min};
 ghost use lib.IntN.{natAbs};
-ghost use lib.ListN.{length};
+ghost use lib.ListN.{length, drop};
+ghost use Rattle.windows.specs.Scratch.{at};
 ghost use Rattle.subtree.specs.Answer.{slotWindow, slotWindows};
-ghost use Rattle.subtree.specs.Stretch.{Solvable, Halves, LeafSolved};
+ghost use Rattle.subtree.specs.Stretch.{Within, Solvable, Solved, Halves, LeafSolved};
 ghost use Rattle.subtree.specs.Pair.{SlotEnds, PairSolved};
 
 // The values within the band of a setpoint.
@@ -42,12 +44,40 @@ fn high_end(middle: u32, band: u32) -> u32
     }
 }
 
-// The answer of a leaf: no term, and the values within the band of its setpoint.
-pub fn write_leaf(setpoint: i16, band: u32, scratch: &mut [i16])
+// The answer of one slot: no term, and the values within the band of its setpoint.
+fn write_leaf(setpoint: i16, band: u32, scratch: &mut [i16])
     requires { ⌜ (natAbs setpoint ≤ 20000) × (band ≤ 40000) × (4 ≤ length (now scratch)) ⌝ }
-    ensures { λ _. ⌜ LeafSolved (slotWindow band setpoint) (now (scratch .exit)) ⌝ }
+    ensures { λ _. ⌜ LeafSolved (slotWindow band setpoint ∷ []) (now (scratch .exit)) ⌝ }
 {
     write_single(scratch, 0, 0, slot_ends(setpoint, band));
+}
+
+// The answer of filler: no term, and every value.
+fn write_filler(scratch: &mut [i16])
+    requires { ⌜ 4 ≤ length (now scratch) ⌝ }
+    ensures { λ _. ⌜ LeafSolved [] (now (scratch .exit)) ⌝ }
+{
+    write_single(
+        scratch,
+        0,
+        0,
+        Ends {
+            low: 0,
+            high: 40000,
+        },
+    );
+}
+
+// The answer of a subtree with one slot or none, whatever its height.
+pub fn write_few(setpoints: &[i16], slots: u32, band: u32, scratch: &mut [i16])
+    requires { ⌜ Within (now setpoints) × (slots ≡ length (now setpoints)) × (slots ≤ 1) × (band ≤ 40000) × (4 ≤ length (now scratch)) ⌝ }
+    ensures { λ _. ⌜ LeafSolved (slotWindows band (now (setpoints .entry))) (now (scratch .exit)) ⌝ }
+{
+    if slots == 0 {
+        write_filler(scratch);
+    } else {
+        write_leaf(setpoints[0], band, scratch);
+    }
 }
 
 // The answers of two leaves and of the node above them.
@@ -62,12 +92,26 @@ pub fn write_pair(left: i16, right: i16, band: u32, scratch: &mut [i16])
     combine_singles(scratch, 0, left_ends, right_ends);
 }
 
-// The answers below a node of four slots: two pairs.
+// The answers below a node of four leaves with two slots or more: a pair, and what there is of a second one.
 // Most calls of the recursion would be for a single pair: this spares them.
-pub fn write_pairs(setpoints: &[i16], band: u32, scratch: &mut [i16])
-    requires { ⌜ Solvable band 2 (now setpoints) (now scratch) ⌝ }
+pub fn write_pairs(setpoints: &[i16], slots: u32, band: u32, scratch: &mut [i16])
+    requires { ⌜ Solvable band 2 (now setpoints) (now scratch) × (slots ≡ length (now setpoints)) × (2 ≤ slots) ⌝ }
     ensures { λ _. ⌜ Halves 1 10 24 (slotWindows band (now (setpoints .entry))) (now (scratch .exit)) ⌝ }
 {
     write_pair(setpoints[0], setpoints[1], band, &mut scratch[10..24]);
-    write_pair(setpoints[2], setpoints[3], band, &mut scratch[24..38]);
+    write_second(setpoints, slots, band, &mut scratch[24..38]);
+}
+
+// The answers of the second pair: of both of its slots, of one, or of none.
+fn write_second(setpoints: &[i16], slots: u32, band: u32, scratch: &mut [i16])
+    requires { ⌜ Within (now setpoints) × (slots ≡ length (now setpoints)) × (2 ≤ slots) × (slots ≤ 4) × (band ≤ 40000) × (14 ≤ length (now scratch)) ⌝ }
+    ensures { λ _. ⌜ Solved 1 (drop 2 (slotWindows band (now (setpoints .entry)))) (at (now (scratch .exit))) ⌝ }
+{
+    if 3 < slots {
+        write_pair(setpoints[2], setpoints[3], band, scratch);
+    } else if 2 < slots {
+        write_leaf(setpoints[2], band, scratch);
+    } else {
+        write_filler(scratch);
+    }
 }

@@ -1,18 +1,21 @@
-// The bottom-up pass of building: the answer of every node of a subtree, in a stretch of scratch.
+// The bottom-up pass of building: the answers of the nodes of a subtree, in a stretch of scratch.
 // A node's answer rests on the answers of its two children; parts of setpoints and scratch are handed to each half of the tree.
+// Filler slots have no setpoint: a part of the setpoints may be short, or empty.
 // Places, numbers and values have 32 bits, as in the crate windows; a part of a slice begins and ends at a usize.
 mod leaves;
 mod node;
 
-use leaves::write_leaf;
+use leaves::write_few;
 use leaves::write_pair;
 use leaves::write_pairs;
+use limits::lesser;
 use node::combine;
 use windows::is_covered;
 use windows::load;
 ghost use mathlib.Core.Path.{_≡_};
 ghost use Prim.Native.Nat.{_^_, _≤_, _<_};
 ghost use lib.IntN.{natAbs};
+ghost use lib.ListN.{length};
 ghost use Rattle.claims.specs.Inner.{lifted, lowered};
 ghost use Rattle.windows.specs.Scratch.{at};
 ghost use Rattle.subtree.specs.Answer.{slotWindows};
@@ -74,42 +77,61 @@ pub fn lower(number: u32) -> i16
     (number as i32 - 20000) as i16
 }
 
-// Fills a stretch with the answer of every node of a subtree over its setpoints.
+// Fills a stretch with the answers of a subtree over its setpoints.
 pub fn solve(setpoints: &[i16], band: u32, scratch: &mut [i16], height: u32)
     requires { ⌜ Solvable band height (now setpoints) (now scratch) ⌝ }
     ensures { λ _. ⌜ Solved height (slotWindows band (now (setpoints .entry))) (at (now (scratch .exit))) ⌝ }
 {
-    if 1 < height {
-        let parts = plan(height);
-        let half = parts.half as usize;
-        let own = parts.own as usize;
-        let middle = parts.middle as usize;
-        let end = parts.end as usize;
+    let slots = setpoints.len() as u32;
+    solve_part(setpoints, slots, height, scratch, band);
+}
+
+// The same over a part of the setpoints, whose number is `slots`. With one slot or none the recursion stops: no term is needed below.
+// The number goes beside the part in 32 bits and the band last: on a Cortex-M0 a length has 64, and the fifth word goes over the stack.
+fn solve_part(setpoints: &[i16], slots: u32, height: u32, scratch: &mut [i16], band: u32)
+    requires { ⌜ Solvable band height (now setpoints) (now scratch) × (slots ≡ length (now setpoints)) ⌝ }
+    ensures { λ _. ⌜ Solved height (slotWindows band (now (setpoints .entry))) (at (now (scratch .exit))) ⌝ }
+{
+    if slots < 2 {
+        write_few(setpoints, slots, band, scratch);
+    } else if 1 < height {
+        // Where the answers of the children stand: two pairs have the places that `write_pairs` gives them.
+        let mut left = 10;
+        let mut right = 24;
         if 2 < height {
-            solve(
-                &setpoints[..half],
-                band,
+            let parts = plan(height);
+            left = parts.own;
+            right = parts.middle;
+            let own = parts.own as usize;
+            let middle = parts.middle as usize;
+            let end = parts.end as usize;
+            let lefts = lesser(parts.half, slots);
+            let cut = lefts as usize;
+            let all = slots as usize;
+            solve_part(
+                &setpoints[..cut],
+                lefts,
+                height - 1,
                 &mut scratch[own..middle],
-                height - 1,
-            );
-            solve(
-                &setpoints[half..],
                 band,
-                &mut scratch[middle..end],
+            );
+            solve_part(
+                &setpoints[cut..all],
+                slots - lefts,
                 height - 1,
+                &mut scratch[middle..end],
+                band,
             );
         } else {
-            write_pairs(setpoints, band, scratch);
+            write_pairs(setpoints, slots, band, scratch);
         }
-        combine(scratch, parts.own, parts.middle);
-    } else if 0 < height {
-        write_pair(setpoints[0], setpoints[1], band, scratch);
+        combine(scratch, left, right);
     } else {
-        write_leaf(setpoints[0], band, scratch);
+        write_pair(setpoints[0], setpoints[1], band, scratch);
     }
 }
 
-// How many terms the tree needs where a value comes in at the root; scratch then holds every node's answer.
+// How many terms the tree needs where a value comes in at the root; scratch then holds the answers of its nodes.
 pub fn count_terms(
     setpoints: &[i16],
     band: u32,

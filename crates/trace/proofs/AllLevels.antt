@@ -11,7 +11,8 @@ use Rattle.claims.specs.Inner.{withTerm}
 use Rattle.windows.specs.Scratch.{at}
 use Rattle.subtree.specs.Answer.{Answer}
 use Rattle.trace.specs.Trace.{change, handedOn, levelTerms, upperTerms, setAt, SolvedStretch, TermFits, LevelFits, LevelsFit, Appended, Traced, LevelTraced, UpperTraced, LevelsTraced}
-use Rattle.trace.proofs.Levels.{setOf, own-term, terms-below, handed-in-set, handed-within}
+use Rattle.trace.proofs.Siblings.{terms-below}
+use Rattle.trace.proofs.Levels.{setOf, own-term, handed-in-set, handed-within}
 use Rattle.trace.proofs.Stretches.{top-is, same-upper}
 use Rattle.trace.proofs.Traced.{appended-first, traced-further, traced-long}
 use Rattle.trace.proofs.Walked.{fewer-levels}
@@ -31,20 +32,20 @@ module _ {scratch : List ℤ} {height value : ℕ} {nodes : List ℕ} {values : 
   for-each : (levels first : ℕ) {nodes′ : List ℕ} {values′ : List ℤ} {count : ℕ} → min levels (suc height) ≡ first → Traced (upper first) nodes nodes′ values values′ count
       → UpperTraced levels scratch height value nodes nodes′ values values′ count
   for-each levels first first-is traced = record {
-    each = λ leaves solved.
-        rw (first-is, same-upper first height leaves (stretch .leaves) (at scratch) value solved (stretch .solved)) traced;
+    each = λ leaves usable solved.
+        rw (first-is, same-upper first height (at scratch) value usable (stretch .usable) solved (stretch .solved)) traced;
   }
 
   -- those that are written so far
   so-far : {levels : ℕ} {nodes′ : List ℕ} {values′ : List ℤ} {count : ℕ} (first : ℕ) → min levels (suc height) ≡ first
       → UpperTraced levels scratch height value nodes nodes′ values values′ count → Traced (upper first) nodes nodes′ values values′ count
-  so-far first first-is traced = rw first-is at (traced .each (stretch .leaves) (stretch .solved))
+  so-far first first-is traced = rw first-is at (traced .each (stretch .leaves) (stretch .usable) (stretch .solved))
 
   -- the slices are as long as before
   pub upper-long : {levels : ℕ} {nodes′ : List ℕ} {values′ : List ℤ} {count : ℕ} → UpperTraced levels scratch height value nodes nodes′ values values′ count
       → (length nodes′ ≡ length nodes) × (length values′ ≡ length nodes)
   upper-long {levels} traced =
-      traced-long (traced .each (stretch .leaves) (stretch .solved)) (upper-fits (min levels (suc height)) (omega arith)) (fits .same-room)
+      traced-long (traced .each (stretch .leaves) (stretch .usable) (stretch .solved)) (upper-fits (min levels (suc height)) (omega arith)) (fits .same-room)
 
   module _ {next : ℕ} (next-is : next ≡ handedOn (setAt scratch 0) value) where
     root-handed : next ≡ handedOn (setOf height (stretch .leaves)) value
@@ -100,7 +101,7 @@ module _ {scratch : List ℤ} {height value : ℕ} {nodes : List ℕ} {values : 
           → UpperTraced (depth + 1) scratch height value nodes nodes″ values values″ more
       level-more level =
           for-each (depth + 1) (suc depth) (omega arith)
-          (rw next-level (traced-further (upper-fits depth (omega arith)) (fits .same-room) traced (level .each (stretch .leaves) (stretch .solved))))
+          (rw next-level (traced-further (upper-fits depth (omega arith)) (fits .same-room) traced (level .each (stretch .leaves) (stretch .usable) (stretch .solved))))
 
     -- a turn of the loop
     module _ {depth : ℕ} (deeper : 2 ≤ depth) (inside : depth ≤ height) {nodes′ : List ℕ} {values′ : List ℤ} {count : ℕ}
@@ -117,7 +118,7 @@ module _ {scratch : List ℤ} {height value : ℕ} {nodes : List ℕ} {values : 
       → LevelsTraced scratch height value nodes nodes′ values values′ count
   all-levels {depth} past traced =
       let all : min depth (suc height) ≡ suc height = omega arith in
-      record { each = λ leaves solved. rw all at (traced .each leaves solved) }
+      record { each = λ leaves usable solved. rw all at (traced .each leaves usable solved) }
 
 -- whatever the terms of the first two levels were written over, those of the first `depth` levels now are
 pub record LevelsSince (scratch : List ℤ) (height value : ℕ) (nodes nodes′ : List ℕ) (values values′ : List ℤ) (top count depth : ℕ) : Type 0 where

@@ -1,9 +1,9 @@
 -- One level below a node that hands on a value: the terms there are those below the left and those below the right child, each with the value that the child hands on.
-use mathlib.Core.Path.{_≡_, refl, sym, ap, ap₂, subst, _∙_}
+use mathlib.Core.Path.{_≡_, sym, ap, ap₂, subst, _∙_}
 use mathlib.Core.Bool.{true}
 use mathlib.Core.List.{List, [], _++_}
 use mathlib.Core.Option.{Option}
-use Prim.Native.Nat.{ℕ, zero, suc, _+_, _*_, _-_, _^_, _≤_, _<_}
+use Prim.Native.Nat.{ℕ, suc, _+_, _*_, _-_, _^_, _≤_, _<_}
 use native.Mathlib.Omega.{arith}
 use lib.Dec.{T}
 use lib.IntN.{ℤ}
@@ -18,8 +18,8 @@ use Rattle.subtree.specs.Answer.{Answer, answer}
 use Rattle.subtree.specs.Stretch.{Usable, Planned}
 use Rattle.subtree.proofs.Answers.{answer-sorted, answer-bounded}
 use Rattle.trace.specs.Trace.{change, handedOn, levelTerms, setAt, SolvedStretch, HandedToChildren, TermFits, LevelFits, Appended, LevelTraced}
-use Rattle.trace.proofs.Chosen.{handed-on-inside, handed-on-in-set, handed-on-twice, choice-is-change}
-use Rattle.trace.proofs.Siblings.{no-terms}
+use Rattle.trace.proofs.Chosen.{handed-on-inside, handed-on-in-set, choice-is-change}
+use Rattle.trace.proofs.Siblings.{no-terms, terms-below}
 use Rattle.trace.proofs.Stretches.{top-is, left-is, right-is, left-stretch, right-stretch, same-level}
 use Rattle.trace.proofs.Traced.{none-appended, appended-long, appended-further}
 
@@ -36,15 +36,6 @@ module _ (height : ℕ) {leaves : List Window} (within : Usable leaves) (node va
   own-term =
       ap (λ (term : Option ℕ). withTerm node term [])
       (choice-is-change (setOf height leaves) (answer-sorted within height) (answer-bounded height leaves .some) value)
-
--- the terms below the node go by the value that it hands on
-pub terms-below : (depth height : ℕ) {leaves : List Window} → Usable leaves → 1 ≤ depth → (node value : ℕ)
-    → levelTerms depth height leaves node value ≡ levelTerms depth height leaves node (handedOn (setOf height leaves) value)
-unfolding levelTerms
-terms-below zero height within deeper node value = absurd (omega arith)
-terms-below (suc depth) zero within deeper node value = refl
-terms-below (suc depth) (suc height) {leaves} within deeper node value =
-    rw (handed-on-twice (setOf (suc height) leaves) (answer-sorted within (suc height)) (answer-bounded (suc height) leaves .some) value)
 
 module _ {height : ℕ} {scratch : List ℤ} (stretch : SolvedStretch height scratch) (value next : ℕ) (next-is : next ≡ handedOn (setOf height (stretch .leaves)) value) where
   -- that value is in the node's set
@@ -80,7 +71,7 @@ module _ {scratch : List ℤ} {height depth node value : ℕ} {nodes : List ℕ}
   for-each : {nodes′ : List ℕ} {values′ : List ℤ} {count′ : ℕ} → Appended terms nodes nodes′ values values′ count count′
       → LevelTraced scratch height depth node value nodes nodes′ values values′ count count′
   for-each appended = record {
-    each = λ leaves solved. rw (same-level depth height leaves (stretch .leaves) (at scratch) node value solved (stretch .solved)) appended;
+    each = λ leaves usable solved. rw (same-level depth height (at scratch) node value usable (stretch .usable) solved (stretch .solved)) appended;
   }
 
   -- none where the node's number is 0
@@ -112,10 +103,11 @@ module _ {scratch : List ℤ} {height depth node value : ℕ} {nodes : List ℕ}
 
 -- ---- the children
 
--- a node with a level `below` its children, the places of the children's answers, and the values that they hand on
+-- a node whose number is above 0, with a level `below` its children, the places of the children's answers, and the values that they hand on
 pub record Descent (scratch : List ℤ) (height depth below node value : ℕ) (nodes : List ℕ) (values : List ℤ) (count half own middle end left right : ℕ) : Type 0 where
   pub fits : LevelFits scratch height depth node value nodes values count
   pub deeper : depth ≡ suc below
+  pub some : 0 < at scratch 0
   pub planned : Planned height half own middle end
   pub handed : HandedToChildren scratch own middle value left right
 
@@ -125,10 +117,10 @@ module _ {scratch : List ℤ} {height depth below node value : ℕ} {nodes : Lis
   whole = descent .fits .stretch
 
   abbrev on-left : SolvedStretch (height - 1) (take (middle - own) (drop own scratch))
-  on-left = left-stretch (descent .planned) whole
+  on-left = left-stretch (descent .planned) whole (descent .some)
 
   abbrev on-right : SolvedStretch (height - 1) (take (end - middle) (drop middle scratch))
-  on-right = right-stretch (descent .planned) whole
+  on-right = right-stretch (descent .planned) whole (descent .some)
 
   -- the terms below each child where a value comes in
   abbrev leftTerms : ℕ → List Term
@@ -147,10 +139,10 @@ module _ {scratch : List ℤ} {height depth below node value : ℕ} {nodes : Lis
       ∙ ap (λ (next : ℕ). leftTerms next ++ rightTerms next) (handed-on-inside (setOf (suc (height - 1)) (whole .leaves)) value inside)
 
   pub left-handed : left ≡ handedOn (setOf (height - 1) (on-left .leaves)) value
-  left-handed = descent .handed .left-is ∙ ap (λ (one : Answer). handedOn (one .windows) value) (left-is (descent .planned) whole)
+  left-handed = descent .handed .left-is ∙ ap (λ (one : Answer). handedOn (one .windows) value) (left-is (descent .planned) whole (descent .some))
 
   pub right-handed : right ≡ handedOn (setOf (height - 1) (on-right .leaves)) value
-  right-handed = descent .handed .right-is ∙ ap (λ (one : Answer). handedOn (one .windows) value) (right-is (descent .planned) whole)
+  right-handed = descent .handed .right-is ∙ ap (λ (one : Answer). handedOn (one .windows) value) (right-is (descent .planned) whole (descent .some))
 
   child-within : (child : ℕ) → child ≤ 2 * node + 1 → child < 2 ^ (10 - below)
   child-within child below-node =
@@ -181,7 +173,7 @@ module _ {scratch : List ℤ} {height depth below node value : ℕ} {nodes : Lis
     module _ {nodes′ : List ℕ} {values′ : List ℤ} {first : ℕ}
         (traced : LevelTraced (take (middle - own) (drop own scratch)) (height - 1) below (2 * node) left nodes nodes′ values values′ count first) where
       abbrev left-traced : Appended (leftTerms left) nodes nodes′ values values′ count first
-      left-traced = traced .each (on-left .leaves) (on-left .solved)
+      left-traced = traced .each (on-left .leaves) (on-left .usable) (on-left .solved)
 
       -- and so is the right child
       pub right-fits : LevelFits (take (end - middle) (drop middle scratch)) (height - 1) below (2 * node + 1) right nodes′ values′ first
@@ -199,7 +191,7 @@ module _ {scratch : List ℤ} {height depth below node value : ℕ} {nodes : Lis
           → LevelTraced (take (end - middle) (drop middle scratch)) (height - 1) below (2 * node + 1) right nodes′ nodes″ values′ values″ first second
           → LevelTraced scratch height depth node value nodes nodes″ values values″ count second
       level-traced right-traced =
-          both-traced (descent .fits) (leftTerms left) (rightTerms right) both-below left-traced (right-traced .each (on-right .leaves) (on-right .solved))
+          both-traced (descent .fits) (leftTerms left) (rightTerms right) both-below left-traced (right-traced .each (on-right .leaves) (on-right .usable) (on-right .solved))
 
 -- ---- where it is the level of the children
 

@@ -14,9 +14,9 @@ use Rattle.windows.specs.Scratch.{at}
 use Rattle.windows.proofs.Sets.{covers-meet, covers-join}
 use Rattle.subtree.specs.Answer.{Answer, combinedBy, combined, answer}
 use Rattle.subtree.specs.Stretch.{answerAt, Usable}
-use Rattle.subtree.proofs.Answers.{apart, answer-sorted, usable-take, usable-drop}
-use Rattle.trace.specs.Trace.{levelTerms, setAt, Handing, HandedToChildren}
-use Rattle.trace.proofs.Chosen.{handed-on-inside, handed-on-outside, lowest-there}
+use Rattle.subtree.proofs.Answers.{apart, answer-sorted, answer-bounded, usable-take, usable-drop}
+use Rattle.trace.specs.Trace.{handedOn, levelTerms, setAt, Handing, HandedToChildren}
+use Rattle.trace.proofs.Chosen.{handed-on-inside, handed-on-outside, handed-on-in-set, handed-on-twice, lowest-there}
 
 -- of two tests exactly one holds where either does and not both
 other-fails : (one other : Bool) → (one || other) ≡ true → (T one → T other → ⊥) → other ≡ not one
@@ -115,3 +115,19 @@ no-terms (suc depth) (suc height) {leaves} node value within none inside =
       no-terms depth height (2 * node) value (usable-take within (2 ^ height)) (omega arith) (both .0),
       no-terms depth height (2 * node + 1) value (usable-drop within (2 ^ height)) (omega arith) (both .1),
     )
+
+-- the terms below a node go by the value that it hands on
+pub terms-below : (depth height : ℕ) {leaves : List Window} → Usable leaves → 1 ≤ depth → (node value : ℕ)
+    → levelTerms depth height leaves node value ≡ levelTerms depth height leaves node (handedOn (answer height leaves .windows) value)
+unfolding levelTerms
+terms-below zero height within deeper node value = absurd (omega arith)
+terms-below (suc depth) zero within deeper node value = refl
+terms-below (suc depth) (suc height) {leaves} within deeper node value =
+    rw (handed-on-twice (answer (suc height) leaves .windows) (answer-sorted within (suc height)) (answer-bounded (suc height) leaves .some) value)
+
+-- so below a node whose number is 0 there are none, whatever value comes in
+pub none-under : (depth height : ℕ) {leaves : List Window} → Usable leaves → 1 ≤ depth → answer height leaves .number ≡ 0 → (node value : ℕ)
+    → levelTerms depth height leaves node value ≡ []
+none-under depth height {leaves} within deeper none node value =
+    terms-below depth height within deeper node value
+    ∙ no-terms depth height node _ within none (handed-on-in-set (answer height leaves .windows) (answer-sorted within height) (answer-bounded height leaves .some) value)

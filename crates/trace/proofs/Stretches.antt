@@ -3,11 +3,13 @@
 use mathlib.Core.Path.{_≡_, refl, sym, ap, ap₂, _∙_, subst}
 use mathlib.Core.Bool.{true}
 use mathlib.Core.List.{List, [], _++_}
-use Prim.Native.Nat.{ℕ, zero, suc, _+_, _*_, _-_, _^_, _≤_}
+use mathlib.Core.Logic.{⊎-elim}
+use Prim.Native.Nat.{ℕ, zero, suc, _+_, _*_, _-_, _^_, _≤_, _<_}
 use native.Mathlib.Omega.{arith}
 use lib.IntN.{ℤ}
 use lib.ListN.{length, take, drop}
 use borrow.Rule.Slice.PartMut.{mid-len}
+use Rattle.histogram.proofs.Order.{below-or-not}
 use Rattle.claims.specs.Inner.{withTerm}
 use Rattle.windows.specs.Windows.{Window, covers, Sorted}
 use Rattle.windows.specs.Scratch.{at}
@@ -18,6 +20,7 @@ use Rattle.subtree.proofs.Answers.{answer-sorted, answer-bounded, usable-take, 
 use Rattle.subtree.proofs.Places.{own-first, places-within}
 use Rattle.subtree.proofs.Solving.{solved-top, solved-same, count-of, child-answer}
 use Rattle.trace.specs.Trace.{choice, handedOn, levelTerms, upperTerms, setAt, Answered, Handing, SolvedStretch}
+use Rattle.trace.proofs.Siblings.{none-under}
 
 -- ---- one answer
 
@@ -49,7 +52,8 @@ part-solved height leaves scratch start end end-is solved =
     solved-same height leaves _ (at (take (end - start) (drop start scratch)))
     (λ place inside. sym (at-part scratch start (end - start) place (omega arith))) solved
 
-module _ {height half own middle end : ℕ} (planned : Planned height half own middle end) {scratch : List ℤ} (stretch : SolvedStretch height scratch) where
+-- where the node's number is above 0
+module _ {height half own middle end : ℕ} (planned : Planned height half own middle end) {scratch : List ℤ} (stretch : SolvedStretch height scratch) (some : 0 < at scratch 0) where
   -- the children's leaves
   abbrev pub leftLeaves : List Window
   leftLeaves = take (2 ^ (height - 1)) (stretch .leaves)
@@ -60,17 +64,20 @@ module _ {height half own middle end : ℕ} (planned : Planned height half own m
   both-solved : Solved (suc (height - 1)) (stretch .leaves) (at scratch)
   both-solved = subst (λ (of : ℕ). Solved of (stretch .leaves) (at scratch)) (planned .below) (stretch .solved)
 
+  terms-needed : 0 < answer (suc (height - 1)) (stretch .leaves) .number
+  terms-needed = omega (arith, ap (λ (one : Answer). one .number) (solved-top (suc (height - 1)) (stretch .leaves) (at scratch) both-solved))
+
   pub left-solved : Solved (height - 1) leftLeaves (λ place. at scratch (own + place))
   unfolding Solved
   left-solved =
       let start : ownPlaces (suc (height - 1)) ≡ own = omega (arith, planned .own-is, ap ownPlaces (planned .below)) in
-      subst (λ (from : ℕ). Solved (height - 1) leftLeaves (λ place. at scratch (from + place))) start (both-solved .1)
+      subst (λ (from : ℕ). Solved (height - 1) leftLeaves (λ place. at scratch (from + place))) start (both-solved .1 terms-needed .0)
 
   pub right-solved : Solved (height - 1) rightLeaves (λ place. at scratch (middle + place))
   unfolding Solved
   right-solved =
       let start : ownPlaces (suc (height - 1)) + places (height - 1) ≡ middle = omega (arith, planned .own-is, planned .middle-is, ap ownPlaces (planned .below)) in
-      subst (λ (from : ℕ). Solved (height - 1) rightLeaves (λ place. at scratch (from + place))) start (both-solved .2)
+      subst (λ (from : ℕ). Solved (height - 1) rightLeaves (λ place. at scratch (from + place))) start (both-solved .1 terms-needed .1)
 
   pub left-is : answerAt (at scratch) own ≡ answer (height - 1) leftLeaves
   left-is = child-answer (height - 1) own leftLeaves (at scratch) left-solved
@@ -111,23 +118,30 @@ module _ {height half own middle end : ℕ} (planned : Planned height half own m
 
 -- ---- the same terms
 
-pub same-level : (depth height : ℕ) (leaves leaves′ : List Window) (read : ℕ → ℕ) (node value : ℕ) → Solved height leaves read → Solved height leaves′ read
+pub same-level : (depth height : ℕ) {leaves leaves′ : List Window} (read : ℕ → ℕ) (node value : ℕ) → Usable leaves → Usable leaves′ → Solved height leaves read → Solved height leaves′ read
     → levelTerms depth height leaves node value ≡ levelTerms depth height leaves′ node value
 unfolding levelTerms Solved
-same-level zero height leaves leaves′ read node value one other =
+same-level zero height {leaves} {leaves′} read node value usable usable′ one other =
     ap (λ (of : Answer). withTerm node (choice (of .windows) value) []) (sym (solved-top height leaves read one) ∙ solved-top height leaves′ read other)
-same-level (suc depth) zero leaves leaves′ read node value one other = refl
-same-level (suc depth) (suc height) leaves leaves′ read node value one other =
+same-level (suc depth) zero read node value usable usable′ one other = refl
+same-level (suc depth) (suc height) {leaves} {leaves′} read node value usable usable′ one other =
+    let same : answer (suc height) leaves ≡ answer (suc height) leaves′ = sym (one .0) ∙ other .0 in
+    let same-number : answer (suc height) leaves .number ≡ answer (suc height) leaves′ .number = ap (λ (of : Answer). of .number) same in
     let next : ℕ = handedOn (answer (suc height) leaves′ .windows) value in
-    rw (sym (one .0) ∙ other .0)
+    ⊎-elim
+    (λ some.
+    let half : ℕ = 2 ^ height in
+    rw same
     (ap₂ _++_
-    (same-level depth height (take (2 ^ height) leaves) (take (2 ^ height) leaves′) (λ place. read (ownPlaces (suc height) + place)) (2 * node) next (one .1) (other .1))
-    (same-level depth height (drop (2 ^ height) leaves) (drop (2 ^ height) leaves′) (λ place. read (ownPlaces (suc height) + places height + place)) (2 * node + 1) next (one .2)
-    (other .2)))
+    (same-level depth height (λ place. read (ownPlaces (suc height) + place)) (2 * node) next (usable-take usable half) (usable-take usable′ half) (one .1 some .0) (other .1 (omega arith) .0))
+    (same-level depth height (λ place. read (ownPlaces (suc height) + places height + place)) (2 * node + 1) next (usable-drop usable half) (usable-drop usable′ half) (one .1 some .1)
+    (other .1 (omega arith) .1))))
+    (λ none. none-under (suc depth) (suc height) usable (omega arith) (omega arith) node value ∙ sym (none-under (suc depth) (suc height) usable′ (omega arith) (omega arith) node value))
+    (below-or-not 0 (answer (suc height) leaves .number))
 
-pub same-upper : (count height : ℕ) (leaves leaves′ : List Window) (read : ℕ → ℕ) (value : ℕ) → Solved height leaves read → Solved height leaves′ read
+pub same-upper : (count height : ℕ) {leaves leaves′ : List Window} (read : ℕ → ℕ) (value : ℕ) → Usable leaves → Usable leaves′ → Solved height leaves read → Solved height leaves′ read
     → upperTerms count height leaves value ≡ upperTerms count height leaves′ value
 unfolding upperTerms
-same-upper zero height leaves leaves′ read value one other = refl
-same-upper (suc count) height leaves leaves′ read value one other =
-    ap₂ _++_ (same-upper count height leaves leaves′ read value one other) (same-level count height leaves leaves′ read 1 value one other)
+same-upper zero height read value usable usable′ one other = refl
+same-upper (suc count) height read value usable usable′ one other =
+    ap₂ _++_ (same-upper count height read value usable usable′ one other) (same-level count height read 1 value usable usable′ one other)

@@ -71,7 +71,7 @@ pub record HandedToChildren (scratch : List ℤ) (left right value leftNext righ
   pub left-is : leftNext ≡ handedOn (setAt scratch left) value
   pub right-is : rightNext ≡ handedOn (setAt scratch right) value
 
--- a stretch that holds every answer over some leaves
+-- a stretch that is solved over some leaves
 pub record SolvedStretch (height : ℕ) (scratch : List ℤ) : Type 0 where
   pub leaves : List Window
   pub usable : Usable leaves
@@ -120,12 +120,12 @@ pub record Traced (terms : List Term) (nodes nodes′ : List ℕ) (values values
 
 -- the terms `depth` levels below a node are written behind the first `start`
 pub record LevelTraced (scratch : List ℤ) (height depth node value : ℕ) (nodes nodes′ : List ℕ) (values values′ : List ℤ) (start count : ℕ) : Type 0 where
-  pub each : (leaves : List Window) → Solved height leaves (at scratch) → Appended (levelTerms depth height leaves node value) nodes nodes′ values values′ start count
+  pub each : (leaves : List Window) → Usable leaves → Solved height leaves (at scratch) → Appended (levelTerms depth height leaves node value) nodes nodes′ values values′ start count
 
 -- the terms of so many levels, or of all, are written
 pub record UpperTraced (levels : ℕ) (scratch : List ℤ) (height value : ℕ) (nodes nodes′ : List ℕ) (values values′ : List ℤ) (count : ℕ) : Type 0 where
-  pub each : (leaves : List Window) → Solved height leaves (at scratch) → Traced (upperTerms (min levels (suc height)) height leaves value) nodes nodes′ values values′ count
+  pub each : (leaves : List Window) → Usable leaves → Solved height leaves (at scratch) → Traced (upperTerms (min levels (suc height)) height leaves value) nodes nodes′ values values′ count
 
 -- the terms of all levels are written
 pub record LevelsTraced (scratch : List ℤ) (height value : ℕ) (nodes nodes′ : List ℕ) (values values′ : List ℤ) (count : ℕ) : Type 0 where
-  pub each : (leaves : List Window) → Solved height leaves (at scratch) → Traced (upperTerms (suc height) height leaves value) nodes nodes′ values values′ count
+  pub each : (leaves : List Window) → Usable leaves → Solved height leaves (at scratch) → Traced (upperTerms (suc height) height leaves value) nodes nodes′ values values′ count

@@ -52,7 +52,7 @@ fn trace_top(
 }
 
 // Writes the terms `depth` levels below a node that hands on `value`, behind the first `count`; the answer is how many there are then.
-// No node below one whose number is 0 has a term. The recursion ends two levels above the terms, which saves most of its calls.
+// Below a node whose number is 0 no node has a term, and their answers need not be in scratch. The recursion ends two levels above the terms, which saves most of its calls.
 fn trace_level(
     scratch: &[i16],
     height: u32,
@@ -120,6 +120,7 @@ fn trace_level(
 }
 
 // Writes the terms of the children of a node that hands on `value`, behind the first `count`; the answer is how many there are then.
+// Where the node's number is 0 they have none, and their answers need not be in scratch.
 fn trace_children(
     scratch: &[i16],
     height: u32,
@@ -132,6 +133,10 @@ fn trace_children(
     requires { ⌜ LevelFits (now scratch) height 1 node value (now nodes) (now values) count ⌝ }
     ensures { λ r. ⌜ LevelTraced (now (scratch .entry)) height 1 node value (now (nodes .entry)) (now (nodes .exit)) (now (values .entry)) (now (values .exit)) count r ⌝ }
 {
+    let number = load(scratch, 0);
+    if number == 0 {
+        return count;
+    }
     let parts = plan(height);
     let next = hand_to_children(scratch, parts.own, parts.middle, value);
     let first = write_term(2 * node, value, next.left, nodes, values, count);

@@ -12,7 +12,7 @@ abbrev Inv-loop : tie.InvT-loop
 Inv-loop setpoints restored band greatest₀ slot₀ greatest slot = SoFar setpoints restored band greatest slot
 
 abbrev μ-loop : tie.MeasureT-loop
-μ-loop setpoints restored band greatest₀ slot₀ greatest slot = length restored - slot
+μ-loop setpoints restored band greatest₀ slot₀ greatest slot = length setpoints - slot
 
 loop-holds : tie.Need-loop-holds Inv-loop μ-loop
 loop-holds c = begun (c .args .setpoints .now) (c .args .restored .now) (c .args .band)

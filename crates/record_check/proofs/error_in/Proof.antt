@@ -1,6 +1,5 @@
 -- `record_check::error_in` meets its contract: the magnitude of the difference.
-use mathlib.Core.Path.{_≡_, ap}
-use Prim.Native.Nat.{ℕ, _-_, _≤_}
+use Prim.Native.Nat.{_≤_}
 use native.Mathlib.Omega.{arith}
 use lib.IntN.{pos, _-ℤ_}
 use lib.ListN.{getD}
@@ -8,39 +7,27 @@ use mir.Syntax.{w16, w32}
 use mir.Val.{SFits}
 use mir.Facts.{toZ-ofZ, sfits-widen}
 use Rattle.limits.proofs.Signed.{widened-to}
-use Rattle.histogram.specs.Errors.{setpointOf}
 use Rattle.record_check.specs.Inner.{difference}
 use Rattle.record_check.proofs.Differences.{difference-bound, small-fits}
 use borrow.Author.Needs.{needs}
 use Rattle.record_check.proofs.error_in.Statement.{statement}
 use Rattle.record_check.proofs.error_in.Tie as tie
 
-setpoint-fits : (c : tie.After-value) → SFits w16 (getD (c .before .before .before .args .setpoints .now) (c .before .before .smaller .result) (pos 0))
+setpoint-fits : (c : tie.After-value) → SFits w16 (getD (c .before .before .args .setpoints .now) (c .before .before .args .slot) (pos 0))
 setpoint-fits c = record { sfits = c .before .setpoint .given }
 
-value-fits : (c : tie.After-value) → SFits w16 (getD (c .before .before .before .args .restored .now) (c .before .before .before .args .slot) (pos 0))
+value-fits : (c : tie.After-value) → SFits w16 (getD (c .before .before .args .restored .now) (c .before .before .args .slot) (pos 0))
 value-fits c = record { sfits = c .value .given }
 
--- the setpoint that is taken is the slot's
-setpoint-is : (c : tie.After-value)
-    → getD (c .before .before .before .args .setpoints .now) (c .before .before .smaller .result) (pos 0) ≡ setpointOf (c .before .before .before .args .setpoints .now) (c .before .before .before .args .slot)
-setpoint-is c = ap (λ (k : ℕ). getD (c .before .before .before .args .setpoints .now) k (pos 0)) (c .before .before .smaller .ensures)
-
-small : (c : tie.After-value) → difference (c .before .before .before .args .setpoints .now) (c .before .before .before .args .restored .now) (c .before .before .before .args .slot) ≤ 40000
+small : (c : tie.After-value) → difference (c .before .before .args .setpoints .now) (c .before .before .args .restored .now) (c .before .before .args .slot) ≤ 40000
 small c =
-    let a = c .before .before .before .args in
-    let both = c .before .before .before .pre .comparable in
-    omega (arith, difference-bound (setpointOf (a .setpoints .now) (a .slot)) (getD (a .restored .now) (a .slot) (pos 0)), both .profile-within (a .slot), both .restored-within (a .slot))
+    let a = c .before .before .args in
+    let both = c .before .before .pre .comparable in
+    omega (arith, difference-bound (getD (a .setpoints .now) (a .slot) (pos 0)) (getD (a .restored .now) (a .slot) (pos 0)), both .profile-within (a .slot), both .restored-within (a .slot))
 
 difference-fits : (c : tie.After-value)
-    → let a = c .before .before .before .args in SFits w32 (getD (a .setpoints .now) (c .before .before .smaller .result) (pos 0) -ℤ getD (a .restored .now) (a .slot) (pos 0))
-difference-fits c = rw (setpoint-is c) (small-fits _ (small c))
-
-sub-smaller : tie.Need-sub-smaller
-sub-smaller c = search needs
-
-smaller-requires : tie.Need-smaller-requires
-smaller-requires c κs = search needs
+    → let a = c .before .before .args in SFits w32 (getD (a .setpoints .now) (a .slot) (pos 0) -ℤ getD (a .restored .now) (a .slot) (pos 0))
+difference-fits c = small-fits _ (small c)
 
 mul-setpoint : tie.Need-mul-setpoint
 mul-setpoint c = search needs
@@ -69,15 +56,13 @@ magnitude-requires c κs = search needs
 returns : tie.Need-returns
 returns c =
     let value = c .before in
-    let is = rw (widened-to w16 w32 tt (setpoint-fits value), widened-to w16 w32 tt (value-fits value), toZ-ofZ (difference-fits value), setpoint-is value) at (c .magnitude .ensures) in
+    let is = rw (widened-to w16 w32 tt (setpoint-fits value), widened-to w16 w32 tt (value-fits value), toZ-ofZ (difference-fits value)) at (c .magnitude .ensures) in
     record { is = is; small = omega (arith, is, small value) }
 
 pub error-in-spec : {M : Type 1} → statement M
 error-in-spec =
     tie.close
     (tie.spec
-    sub-smaller
-    smaller-requires
     mul-setpoint
     shared-slice-copy-out-setpoint
     mul-value

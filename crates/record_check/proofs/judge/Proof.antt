@@ -34,8 +34,8 @@ enough c = omega (arith, few (c .before .before), as-long c)
 padded-length-requires : tie.Need-padded-length-requires
 padded-length-requires c κs = search needs
 
-mul-end : tie.Need-mul-end
-mul-end c = omega (arith, few c)
+mul-hand-down : tie.Need-mul-hand-down
+mul-hand-down c = omega (arith, few c)
 
 slice-aggregate-hand-down : tie.Need-slice-aggregate-hand-down
 slice-aggregate-hand-down c = search needs
@@ -51,6 +51,9 @@ hand-down-requires c κs =
       room = omega (arith, few padding);
     }
 
+add-end : tie.Need-add-end
+add-end c = omega (arith, few (c .before .before .before))
+
 mul-compare : tie.Need-mul-compare
 mul-compare c = omega (arith, few (c .before .before .before))
 
@@ -61,7 +64,7 @@ part-compare-start : tie.Need-part-compare-start
 part-compare-start c = search needs
 
 part-compare-end : tie.Need-part-compare-end
-part-compare-end c = enough (c .before .before)
+part-compare-end c = omega (arith, few (c .before .before .before .before), as-long (c .before .before))
 
 compare-requires : tie.Need-compare-requires
 compare-requires c κs =
@@ -83,9 +86,10 @@ judge-spec =
     tie.close
     (tie.spec
     padded-length-requires
-    mul-end
+    mul-hand-down
     slice-aggregate-hand-down
     hand-down-requires
+    add-end
     mul-compare
     sub-compare
     part-compare-start

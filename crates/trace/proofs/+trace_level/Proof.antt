@@ -40,7 +40,13 @@ module _ (t : ℕ) where
       (parts .end) (c .hand-to-children .result .left) (c .hand-to-children .result .right)
 
   descent : (c : lts.After-hand-to-children (calls t) (at-measure t) trace-level.Post) (below : ℕ) → c .before .before .before .before .before .before .before .before .args .depth ≡ suc below → Descends c below
-  descent c below deeper = record { fits = c .before .before .before .before .before .before .before .before .pre .1 .1; deeper = deeper; planned = c .before .before .before .before .plan .ensures; handed = c .hand-to-children .ensures }
+  descent c below deeper = record {
+    fits = c .before .before .before .before .before .before .before .before .pre .1 .1;
+    deeper = deeper;
+    some = omega (arith, c .before .before .before .before .before .before .load .ensures .0, c .before .before .before .before .before .if1 .left);
+    planned = c .before .before .before .before .plan .ensures;
+    handed = c .hand-to-children .ensures;
+  }
 
   -- the level is further below the children, or that of the grandchildren
   further : (c : lts.After-hand-to-children (calls t) (at-measure t) trace-level.Post) → 2 < c .before .before .before .before .before .before .before .before .args .depth → Descends c (c .before .before .before .before .before .before .before .before .args .depth - 1)
@@ -76,7 +82,9 @@ module _ (t : ℕ) where
   cast-end c = search needs
 
   hand-to-children-requires : lts.Need-hand-to-children-requires (calls t) (at-measure t) trace-level.Post
-  hand-to-children-requires c κs = let fits = c .before .before .before .before .before .before .before .pre .1 .1 in handing (c .before .before .before .plan .ensures) (fits .stretch) (fits .in-set)
+  hand-to-children-requires c κs =
+      let fits = c .before .before .before .before .before .before .before .pre .1 .1 in
+      handing (c .before .before .before .plan .ensures) (fits .stretch) (omega (arith, c .before .before .before .before .before .load .ensures .0, c .before .before .before .before .if1 .left)) (fits .in-set)
 
   mul-trace-level : lts.Need-mul-trace-level (calls t) (at-measure t) trace-level.Post
   mul-trace-level c = search needs
