@@ -5,9 +5,16 @@ The better of two offers has rows beside it for reading its text and checking it
 """
 import pathlib
 import random
+import re
 from collections import namedtuple
 
 EXAMPLES = pathlib.Path(__file__).resolve().parent.parent / "examples"
+
+# Of 512 random setpoints the first so many are a profile of their own: powers of two, and lengths with filler behind them.
+SLOTS_OF_WHOLE = 512
+WHOLE = f"{SLOTS_OF_WHOLE} random"
+FIRST_SLOTS = [64, 128, 256, 257, 300]
+PART_OF_A_PROFILE = re.compile(rf"(\d+) of ({WHOLE})")
 
 # A record of a case is bytes, or the name of the case that builds it; two offers are a record and a second one.
 Case = namedtuple("Case", "name call number text record refusal second", defaults=(0, b"", b"", 0, b""))
@@ -31,13 +38,19 @@ def packed(slots, band, rest, terms):
     return bytes(int(bits[at:at + 8], 2) for at in range(0, len(bits), 8))
 
 
+def first_of_random(slots):
+    return f"{slots} of {WHOLE}"
+
+
 def shapes():
     """Setpoints by the name of their shape."""
     rng = random.Random(512)
     plateaus = [rng.randrange(0, 2001) for _ in range(32)]
     spread = [40000 * slot // 511 - 20000 for slot in range(512)]
+    whole = [rng.randrange(-20000, 20001) for _ in range(SLOTS_OF_WHOLE)]
     return {
-        "512 random": [rng.randrange(-20000, 20001) for _ in range(512)],
+        WHOLE: whole,
+        **{first_of_random(slots): whole[:slots] for slots in FIRST_SLOTS},
         "512 in steps": [plateaus[slot // 16] for slot in range(512)],
         "512 on a ramp": [37 * slot for slot in range(512)],
         "512 of two values": [1000 + 1000 * (slot % 2) for slot in range(512)],
@@ -55,7 +68,8 @@ def builds():
     for shape, band in [("512 random", 0), ("512 random", 25), ("512 random", 300), ("512 random", 40000),
                         ("512 in steps", 25), ("512 in steps", 300), ("512 on a ramp", 25), ("512 on a ramp", 300),
                         ("512 of two values", 0), ("512 of two values", 300), ("512 equal", 25),
-                        ("512 extremes", 0), ("512 extremes", 40000), ("300 random", 25), ("512 evenly spread", 38)]:
+                        ("512 extremes", 0), ("512 extremes", 40000), ("300 random", 25), ("512 evenly spread", 38),
+                        *[(first_of_random(slots), 25) for slots in FIRST_SLOTS]]:
         cases.append(Case(f"build {shape}, band {typed(band).decode()}", "text_to_record", text=profile(band, setpoints[shape])))
     return cases
 
@@ -110,6 +124,9 @@ def other_calls():
              record="build 512 random, band 3,00"),
         Case("check noisy.txt", "record_against_text", text=noisy, record="build noisy.txt"),
     ]
+    for slots in [256, 257, 300]:
+        shape = first_of_random(slots)
+        cases.append(Case(f"least band of {shape}, budget 16", "least_band_of_text", 16, profile(0, setpoints[shape])))
     for budget in [0, 16, 255]:
         for shape in ["512 random", "512 on a ramp"]:
             cases.append(Case(f"least band of {shape}, budget {budget}", "least_band_of_text", budget, profile(0, setpoints[shape])))

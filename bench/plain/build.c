@@ -3,6 +3,7 @@
  * Both go by sets of values, as sorted windows, from the slots up to the root: the values that can come in
  * from above without a term more. A node's set is what is in both of its children's sets; where they do not
  * meet it is what is in either, and the node costs a term. The least band is found by halving.
+ * A node with no slot below it accepts every value; of these only the first of each level is looked at.
  */
 #include "parts.h"
 
@@ -60,15 +61,32 @@ static bool is_in(const struct window *windows, int count, int value)
     return false;
 }
 
+/* How many nodes of a height have slots below them: the first of their level. */
+static int nodes_with_slots(const struct profile *profile, int height)
+{
+    return (profile->slots + (1 << height) - 1) >> height;
+}
+
+/* The node behind those with slots, where their level of `nodes` has one more. */
+static void write_filler(struct tree *tree, int height, int nodes, int with_slots)
+{
+    if (with_slots == nodes)
+        return;
+    tree->windows[height][with_slots << height].low = -MOST_VALUE;
+    tree->windows[height][with_slots << height].high = MOST_VALUE;
+    tree->counts[nodes + with_slots] = 1;
+}
+
 static void write_leaves(const struct profile *profile, int band, struct tree *tree)
 {
-    for (int slot = 0; slot < profile->leaves; slot++) {
+    for (int slot = 0; slot < profile->slots; slot++) {
         int low = profile->setpoints[slot] - band;
         int high = profile->setpoints[slot] + band;
         tree->windows[0][slot].low = (int16_t)(low < -MOST_VALUE ? -MOST_VALUE : low);
         tree->windows[0][slot].high = (int16_t)(high > MOST_VALUE ? MOST_VALUE : high);
         tree->counts[profile->leaves + slot] = 1;
     }
+    write_filler(tree, 0, profile->leaves, profile->slots);
 }
 
 /* Finds every node's set for a band; the answer is the fewest terms that keep it. */
@@ -79,7 +97,8 @@ static int fewest_terms(const struct profile *profile, int band, struct tree *tr
     write_leaves(profile, band, tree);
     for (int nodes = profile->leaves / 2; nodes > 0; nodes /= 2) {
         int room = 1 << height;
-        for (int i = 0; i < nodes; i++) {
+        int with_slots = nodes_with_slots(profile, height + 1);
+        for (int i = 0; i < with_slots; i++) {
             const struct window *left = &tree->windows[height][2 * i * room];
             const struct window *right = left + room;
             struct window *own = &tree->windows[height + 1][2 * i * room];
@@ -93,6 +112,7 @@ static int fewest_terms(const struct profile *profile, int band, struct tree *tr
             tree->counts[nodes + i] = (uint16_t)count;
         }
         height++;
+        write_filler(tree, height, nodes, with_slots);
     }
     return is_in(tree->windows[height], tree->counts[1], profile->rest) ? terms : terms + 1;
 }
@@ -122,7 +142,8 @@ static int write_terms(const struct profile *profile, const struct tree *tree, s
         height++;
     incoming[1] = (int16_t)profile->rest;
     for (int first = 1; first <= profile->leaves; first *= 2, height--) {
-        for (int node = first; node < 2 * first; node++) {
+        int end = first + nodes_with_slots(profile, height);
+        for (int node = first; node < end; node++) {
             const struct window *windows = &tree->windows[height][(node - first) << height];
             int16_t value = incoming[node];
             if (!is_in(windows, tree->counts[node], value)) {

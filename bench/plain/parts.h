@@ -15,7 +15,7 @@ enum {
     MOST_BUDGET = 1023
 };
 
-/* A profile's setpoints, with filler up to `leaves`, the power of two that the tree stands on. */
+/* A profile's setpoints, and `leaves`, the power of two that the tree stands on. */
 struct profile {
     int rest;
     int band;

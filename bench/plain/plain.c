@@ -42,7 +42,7 @@ static uint64_t check(const struct profile *profile, const struct synopsis *syno
     int16_t values[MOST_NODES];
     int greatest = 0;
     restore_nodes(synopsis, values);
-    for (int slot = 0; slot < profile->leaves; slot++) {
+    for (int slot = 0; slot < profile->slots; slot++) {
         int error = profile->setpoints[slot] - values[profile->leaves + slot];
         if (error < 0)
             error = -error;

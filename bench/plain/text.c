@@ -93,7 +93,5 @@ int read_profile(const uint8_t *bytes, size_t length, struct profile *profile)
     if (refusal != 0)
         return refusal;
     profile->leaves = leaves_over(profile->slots);
-    for (int slot = profile->slots; slot < profile->leaves; slot++)
-        profile->setpoints[slot] = profile->setpoints[profile->slots - 1];
     return 0;
 }

@@ -311,12 +311,12 @@ static void type_profile(enum shape shape, unsigned slots, int32_t band)
 
 static void fire_profiles(void)
 {
-    static const unsigned lengths[] = { 1, 2, 3, 4, 5, 7, 8, 9, 13, 16, 17, 27, 32, 50, 64, 100, 512 };
+    static const unsigned lengths[] = { 1, 2, 3, 4, 5, 6, 7, 8, 9, 11, 13, 16, 17, 22, 27, 32, 50, 64, 100, 257, 300, 512 };
     static const int32_t bands[] = { 0, 30, 700 };
     for (size_t i = 0; i < sizeof lengths / sizeof lengths[0]; i++) {
         for (size_t j = 0; j < sizeof bands / sizeof bands[0]; j++) {
             for (int shape = 0; shape < SHAPES; shape++) {
-                if (lengths[i] < 512 || (int)j == shape) {
+                if (lengths[i] < 257 || (int)j == shape) {
                     type_profile((enum shape)shape, lengths[i], bands[j]);
                     fire(lengths[i]);
                 }
@@ -401,6 +401,23 @@ static void ask_changed_records(void)
     ask_record();
 }
 
+static const char PAST_THE_END[] = "0\n0\n0\n0\n0\n0\n0\n1\n";
+
+/* A record for that text's six slots with the terms (7, -20,000), over filler alone, and (13, 100). */
+static const uint8_t OVER_FILLER[] = { 0x10, 0x28, 0x00, 0x00, 0x00, 0x00, 0x04, 0x03, 0xD8, 0xF0, 0x01, 0xA0, 0x0C, 0x80 };
+
+/* A text of which the last slots decide, and a record that restores something else past them. */
+static void ask_past_the_end(void)
+{
+    take_text(PAST_THE_END);
+    fire(6);
+    record = OVER_FILLER;
+    record_len = sizeof OVER_FILLER;
+    ask_record();
+    ask_slot(5);
+    ask_slot(6);
+}
+
 static void ask_records(void)
 {
     take_text(GOOD);
@@ -418,6 +435,7 @@ void requests(void)
     ask_texts();
     ask_limits();
     ask_records();
+    ask_past_the_end();
     for (int i = 0; i < CALLS; i++)
         print_figures(CALL_NAMES[i], most[i]);
     add_number(requests_made);

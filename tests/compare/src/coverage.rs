@@ -1,9 +1,13 @@
 //! Which outcomes each call and the program `fire` have shown, counted by name; a run that misses one that the documents allow has failed.
+//! So has one without a profile whose fewest terms F-3 has changed.
 
 use crate::document::calls::{Answer, Call};
 use crate::document::offers::{ENDINGS, Ending, LACKS, Lack, better_offer, candidate};
+use crate::document::optimum::fewest_terms;
+use crate::document::record::read_record;
 use crate::document::refusal::{ALL, Calls, Refusal};
-use crate::document::text::read_text;
+use crate::document::synopsis::{Verdict, check, padded_length};
+use crate::document::text::{Profile, read_text};
 use std::collections::HashMap;
 use std::fmt::Debug;
 use std::hash::Hash;
@@ -16,8 +20,8 @@ const FIRE: usize = 4;
 enum Outcome {
     Answered,
     Kept,
+    KeptDespiteFiller,
     NotKept,
-    NotKeptInFiller,
     Refused(Refusal),
 }
 
@@ -25,10 +29,10 @@ impl Outcome {
     fn of(call: Call, answer: Answer) -> Outcome {
         match (call, answer) {
             (_, Err(refusal)) => Outcome::Refused(refusal),
-            (Call::RecordAgainstText { .. }, Ok([1, ..])) => Outcome::Kept,
-            (Call::RecordAgainstText { text, .. }, Ok([_, _, slot])) if usize::from(slot) >= slots_of(text) => {
-                Outcome::NotKeptInFiller
+            (Call::RecordAgainstText { record, text }, Ok([1, ..])) if kept_despite_filler(record, text) => {
+                Outcome::KeptDespiteFiller
             }
+            (Call::RecordAgainstText { .. }, Ok([1, ..])) => Outcome::Kept,
             (Call::RecordAgainstText { .. }, Ok(_)) => Outcome::NotKept,
             (_, Ok(_)) => Outcome::Answered,
         }
@@ -38,21 +42,33 @@ impl Outcome {
         match self {
             Outcome::Answered => (0, [true, true, false, true, true], "answered"),
             Outcome::Kept => (0, AGAINST_TEXT, "kept"),
-            Outcome::NotKept => (0, AGAINST_TEXT, "not kept, first in a slot of the profile"),
-            Outcome::NotKeptInFiller => (0, AGAINST_TEXT, "not kept, first in a filler slot"),
+            Outcome::KeptDespiteFiller => (0, AGAINST_TEXT, "kept, and not with the last setpoint in filler"),
+            Outcome::NotKept => (0, AGAINST_TEXT, "not kept"),
             Outcome::Refused(refusal) => refusal.row(),
         }
     }
 
     fn all() -> impl Iterator<Item = Outcome> {
-        let answers = [Outcome::Answered, Outcome::Kept, Outcome::NotKept, Outcome::NotKeptInFiller];
+        let answers = [Outcome::Answered, Outcome::Kept, Outcome::KeptDespiteFiller, Outcome::NotKept];
         answers.into_iter().chain(ALL.into_iter().map(Outcome::Refused))
     }
 }
 
-/// The slots of a text that is accepted.
-fn slots_of(text: &[u8]) -> usize {
-    text.iter().filter(|&&byte| byte == 10).count() - 2
+/// Whether a record that is kept would not be, had filler the last setpoint.
+fn kept_despite_filler(record: &[u8], text: &[u8]) -> bool {
+    let (Ok(record), Ok(profile)) = (read_record(record), read_text(text)) else {
+        return false;
+    };
+    let verdict = check(&record.terms, record.rest, record.band, &lengthened(&profile.setpoints));
+    matches!(verdict, Verdict::NotKept(_))
+}
+
+/// A profile's setpoints with the last one in filler too, as document 01 had it before F-3: only for showing that F-3 makes
+/// a difference in the run.
+fn lengthened(setpoints: &[i32]) -> Vec<i32> {
+    let mut all = setpoints.to_vec();
+    all.resize(padded_length(setpoints.len()), setpoints[setpoints.len() - 1]);
+    all
 }
 
 #[derive(Default)]
@@ -60,6 +76,8 @@ pub struct Coverage {
     met: HashMap<Outcome, [u64; 5]>,
     endings: HashMap<Ending, u64>,
     lacks: HashMap<Lack, u64>,
+    with_filler: u64,
+    with_other_fewest: u64,
 }
 
 impl Coverage {
@@ -84,6 +102,17 @@ impl Coverage {
         }
     }
 
+    /// Whether a profile has filler, and then whether its fewest terms are other than with the last setpoint in filler.
+    pub fn note_fewest(&mut self, profile: &Profile) {
+        let lengthened = lengthened(&profile.setpoints);
+        if lengthened.len() == profile.setpoints.len() {
+            return;
+        }
+        let fewest = |setpoints: &[i32]| fewest_terms(setpoints, profile.rest, profile.band);
+        self.with_filler += 1;
+        self.with_other_fewest += u64::from(fewest(&lengthened) != fewest(&profile.setpoints));
+    }
+
     /// The outcome of a firing, by the answer that building the same text has.
     pub fn note_firing(&mut self, answer: Answer) {
         self.met.entry(answer.map_or_else(Outcome::Refused, |_| Outcome::Answered)).or_default()[FIRE] += 1;
@@ -106,9 +135,13 @@ impl Coverage {
         }
         println!("two offers, by how the choice ends: {}", listed(&ENDINGS, &self.endings));
         println!("two offers, by what one lacks: {}", listed(&LACKS, &self.lacks));
+        println!(
+            "profiles with filler: {}, of which with other fewest terms than with the last setpoint in filler: {}",
+            self.with_filler, self.with_other_fewest
+        );
     }
 
-    /// Whether every call has shown every outcome that it can have.
+    /// Whether every call has shown every outcome that it can have, and some profile the difference that F-3 makes.
     pub fn complete(&self) -> bool {
         let all_met = |outcome: Outcome| {
             outcome.row().1.iter().zip(self.counts(outcome)).all(|(&allowed, count)| !allowed || count > 0)
@@ -116,6 +149,7 @@ impl Coverage {
         Outcome::all().all(all_met)
             && ENDINGS.iter().all(|ending| self.endings.contains_key(ending))
             && LACKS.iter().all(|lack| self.lacks.contains_key(lack))
+            && self.with_other_fewest > 0
     }
 }
 

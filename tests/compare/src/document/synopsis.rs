@@ -1,4 +1,5 @@
-//! Document 01, "The setpoint in a slot": filler, nodes, terms, the restored setpoint and its error; and the check's verdict.
+//! Document 01, "The setpoint in a slot", with document 02's F-3: nodes, terms, the restored setpoint and its error; and the
+//! check's verdict. "From now on filler carries no setpoint": what looks at errors looks at slots below n alone.
 
 /// A node number and a value.
 #[derive(Clone, Copy, Debug, PartialEq)]
@@ -7,20 +8,13 @@ pub struct Term {
     pub value: i32,
 }
 
-/// m: the smallest power of two that is n or more.
+/// m: the smallest power of two that is n or more. Slots n to m-1 are filler.
 pub fn padded_length(slots: usize) -> usize {
     let mut length = 1;
     while length < slots {
         length *= 2;
     }
     length
-}
-
-/// The setpoints of all m slots: filler carries the last one.
-pub fn padded(setpoints: &[i32]) -> Vec<i32> {
-    let mut all = setpoints.to_vec();
-    all.resize(padded_length(setpoints.len()), setpoints[setpoints.len() - 1]);
-    all
 }
 
 /// The value of the lowest term on the path from a node up to the root; with none, the rest value. Terms ascend by node.
@@ -34,11 +28,11 @@ pub fn restored(terms: &[Term], rest: i32, mut node: usize) -> i32 {
     rest
 }
 
-/// The errors of all m slots.
+/// The errors of the slots below n.
 pub fn errors(terms: &[Term], rest: i32, setpoints: &[i32]) -> Vec<i32> {
-    let all = padded(setpoints);
-    let error = |(slot, setpoint): (usize, &i32)| (setpoint - restored(terms, rest, all.len() + slot)).abs();
-    all.iter().enumerate().map(error).collect()
+    let first_leaf = padded_length(setpoints.len());
+    let error = |(slot, setpoint): (usize, &i32)| (setpoint - restored(terms, rest, first_leaf + slot)).abs();
+    setpoints.iter().enumerate().map(error).collect()
 }
 
 pub fn greatest_error(terms: &[Term], rest: i32, setpoints: &[i32]) -> i32 {

@@ -11,7 +11,7 @@ const BEYOND: [u64; 9] = [1_024, 1_025, 32_768, 65_535, 65_536, 65_537, 1 << 32,
 pub fn run(comparison: &mut Comparison) {
     let mut random = Random::new(3);
     for shape in SHAPES {
-        for slots in [1, 2, 3, 5, 8, 31, 512] {
+        for slots in [1, 2, 3, 5, 6, 8, 22, 31, 300, 512] {
             let profile = profile(&mut random, shape, slots);
             let text = any_text(&mut random, &profile);
             for budget in (0..=BUDGET_LIMIT.min(2 * slots as u64)).chain([BUDGET_LIMIT - 1, BUDGET_LIMIT]).chain(BEYOND)

@@ -60,14 +60,14 @@ fn long_destinations(comparison: &mut Comparison) {
 }
 
 /// Every list of so many of the values.
-fn for_all(values: &[i32], slots: usize, mut each: impl FnMut(&[i32])) {
+pub fn for_all(values: &[i32], slots: usize, mut each: impl FnMut(&[i32])) {
     for number in 0..values.len().pow(slots as u32) {
         let digit = |slot: usize| number / values.len().pow(slot as u32) % values.len();
         each(&(0..slots).map(|slot| values[digit(slot)]).collect::<Vec<i32>>());
     }
 }
 
-fn fire_with_all(comparison: &mut Comparison, setpoints: &[i32], rests: &[i32], bands: &[i32]) {
+pub fn fire_with_all(comparison: &mut Comparison, setpoints: &[i32], rests: &[i32], bands: &[i32]) {
     for &rest in rests {
         for &band in bands {
             fire(comparison, &Profile { rest, band, setpoints: setpoints.to_vec() });
@@ -77,6 +77,7 @@ fn fire_with_all(comparison: &mut Comparison, setpoints: &[i32], rests: &[i32], 
 
 /// One firing in full.
 pub fn fire(comparison: &mut Comparison, profile: &Profile) {
+    comparison.coverage.note_fewest(profile);
     let text = write_text(profile);
     let ([_, _, terms, greatest_error], record) = comparison.text_to_record(&text, byte_count(1_023));
     let Some(record) = record else {

@@ -9,6 +9,10 @@ use crate::document::text::{Profile, write_text};
 pub const FIRING: &[u8] = b"14,00\n0,25\n14,10\n13,90\n20,00\n19,50\n";
 pub const FIRING_RECORD: [u8; 11] = [0x10, 0x18, 0x00, 0xC8, 0x2B, 0xC0, 0x02, 0x01, 0x83, 0xDB, 0x80];
 
+/// Document 02's F-3: 0, 0, 0, 0, 0, 100 with rest 0 and band 0, and the record of its one term, 100 at node 13.
+pub const PAST_THE_END: &[u8] = b"0,00\n0,00\n0,00\n0,00\n0,00\n0,00\n0,00\n1,00\n";
+pub const PAST_THE_END_RECORD: [u8; 11] = [0x10, 0x28, 0x00, 0x00, 0x00, 0x00, 0x02, 0x06, 0x80, 0x32, 0x00];
+
 pub fn run(comparison: &mut Comparison) {
     let mut instances = Instances(comparison);
     one_firing(&mut instances);
@@ -18,6 +22,7 @@ pub fn run(comparison: &mut Comparison) {
     small_profiles(&mut instances);
     wrong_turnings(&mut instances);
     lengths_of_records(&mut instances);
+    slots_past_the_end(&mut instances);
     readings(&mut instances);
 }
 
@@ -178,6 +183,34 @@ fn lengths_of_records(instances: &mut Instances) {
     }
 }
 
+/// "The profile 0, 0, 0, 0, 0, 100 with rest 0 and band 0 drops from two terms to one." Its slots 6 and 7 are filler, below node 7.
+fn slots_past_the_end(instances: &mut Instances) {
+    let name = "0, 0, 0, 0, 0, 100, rest 0, band 0";
+    let record = instances.builds(name, PAST_THE_END, [0, 11, 1, 0]);
+    instances.0.same("the record of F-3's profile", &name, Some(PAST_THE_END_RECORD.to_vec()), record);
+    for (budget, band) in [(0, 100), (1, 0)] {
+        instances.least_band("F-3's profile, a budget", PAST_THE_END, budget, [0, band, 0, 0]);
+    }
+    let [as_before, far, slot_5_too] =
+        [(100, 100), (-20_000, 100), (-20_000, 99)].map(|values| with_filler_term(0, values));
+    let kept = [0, 1, 0, 0];
+    instances.checks("F-3's profile, the one term", &PAST_THE_END_RECORD, PAST_THE_END, kept);
+    instances.checks("F-3's profile, the two terms it had before", &as_before, PAST_THE_END, kept);
+    instances.checks("F-3's profile, filler outside the band", &far, PAST_THE_END, kept);
+    instances.checks("F-3's profile, slot 5 outside it too", &slot_5_too, PAST_THE_END, [0, 0, 0, 5]);
+    instances.restores("the last slot before filler", &far, 5, [0, 100, 0, 0]);
+    instances.restores("the first filler slot", &far, 6, refused(10));
+    let filler_term = vec![Term { node: 7, value: 100 }];
+    let record = Record { slots: 3, band: 0, rest: 0, terms: filler_term }.bytes();
+    instances.checks("a filler slot outside the band, the last one's neighbour", &record, b"0\n0\n0\n0\n0\n", kept);
+}
+
+/// A record of two terms for F-3's profile: one over filler alone, at node 7, and slot 5's own.
+pub fn with_filler_term(band: i32, (filler, slot_5): (i32, i32)) -> Vec<u8> {
+    let terms = vec![Term { node: 7, value: filler }, Term { node: 13, value: slot_5 }];
+    Record { slots: 6, band, rest: 0, terms }.bytes()
+}
+
 /// Places that are open or easily misread, as docs/DECISIONS.md reads them.
 fn readings(instances: &mut Instances) {
     let longest = profile_text(&[5; 512], 0, 5);
@@ -196,7 +229,4 @@ fn readings(instances: &mut Instances) {
     let record = two_terms.bytes();
     instances.restores("a count above 2m-1 that fits the bytes", &record, 0, refused(8));
     instances.restores("a count above 2m-1 that does not", &record[..record.len() - 1], 0, refused(7));
-    let filler_term = vec![Term { node: 7, value: 100 }];
-    let record = Record { slots: 3, band: 0, rest: 0, terms: filler_term }.bytes();
-    instances.checks("a filler slot outside the band", &record, b"0\n0\n0\n0\n0\n", [0, 0, 0, 3]);
 }

@@ -1,6 +1,7 @@
 //! The groups of comparisons, in the order they are run.
 
 mod budgets;
+mod filler;
 mod firings;
 mod instances;
 mod numbers;
@@ -14,12 +15,13 @@ use crate::comparison::Comparison;
 
 pub type Group = fn(&mut Comparison);
 
-pub const ALL: [(&str, Group); 9] = [
+pub const ALL: [(&str, Group); 10] = [
     ("the second program against itself", self_check::run),
     ("the documents' instances", instances::run),
     ("numbers as typed", numbers::run),
     ("texts, good and damaged", texts::run),
     ("firings: built, restored, checked", firings::run),
+    ("slots past the end", filler::run),
     ("budgets", budgets::run),
     ("records, good and damaged", records::run),
     ("the better of two offers", offers::run),

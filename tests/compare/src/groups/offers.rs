@@ -1,19 +1,21 @@
 //! Two offers for one text: one, two or no candidates, equal ones, bytes behind them, short buffers, counts that point past the
 //! end, records that read and are for another profile, and texts that are refused.
 
-use super::instances::{FIRING, FIRING_RECORD};
+use super::instances::{FIRING, FIRING_RECORD, with_filler_term};
 use crate::comparison::Comparison;
+use crate::document::VALUE_LIMIT;
 use crate::document::record::{Record, byte_count};
-use crate::document::synopsis::{Term, padded};
+use crate::document::synopsis::{Term, padded_length};
 use crate::document::text::Profile;
 use crate::inputs::changes::Change;
-use crate::inputs::profiles::{SHAPES, any_profile, away, profile, record};
+use crate::inputs::profiles::{SHAPES, any_profile, away, filler_nodes, profile, record, with_terms_at};
 use crate::inputs::random::Random;
 use crate::inputs::typed::any_text;
 
 pub fn run(comparison: &mut Comparison) {
     let mut random = Random::new(7);
     by_name(comparison);
+    over_filler(comparison);
     for shape in SHAPES {
         for slots in [1, 2, 3, 4, 5, 7, 8, 13, 40] {
             let profile = profile(&mut random, shape, slots);
@@ -29,11 +31,21 @@ pub fn run(comparison: &mut Comparison) {
     }
 }
 
+/// A name, two buffers, and what their choice gives.
+type Case<'a> = (&'a str, &'a [u8], &'a [u8], [u16; 4]);
+
+fn chosen(comparison: &mut Comparison, text: &[u8], cases: &[Case]) {
+    for &(name, first, second, gives) in cases {
+        let answer = comparison.better_offer(text, first, second);
+        comparison.same("two offers, by name", &name, gives, answer);
+    }
+}
+
 fn by_name(comparison: &mut Comparison) {
     let terms = vec![Term { node: 2, value: 1400 }, Term { node: 3, value: 1975 }];
     let two_terms = Record { slots: 4, band: 25, rest: 1400, terms }.bytes();
     let behind = [FIRING_RECORD.as_slice(), &[0x10, 0xFF, 0x00]].concat();
-    let cases: [(&str, &[u8], &[u8], [u16; 4]); 8] = [
+    let cases: [Case; 8] = [
         ("fewer terms, in the first buffer", &FIRING_RECORD, &two_terms, [0, 1, 11, 0]),
         ("fewer terms, in the second buffer", &two_terms, &FIRING_RECORD, [0, 2, 11, 0]),
         ("equal offers", &FIRING_RECORD, &FIRING_RECORD, [0, 1, 11, 0]),
@@ -43,10 +55,7 @@ fn by_name(comparison: &mut Comparison) {
         ("a buffer that ends before its count", &FIRING_RECORD[..6], &FIRING_RECORD[..7], [0, 0, 0, 0]),
         ("no bytes", &[], &[], [0, 0, 0, 0]),
     ];
-    for (name, first, second, gives) in cases {
-        let answer = comparison.better_offer(FIRING, first, second);
-        comparison.same("two offers for document 01's text", &name, gives, answer);
-    }
+    chosen(comparison, FIRING, &cases);
     for behind in [b"x\n".as_slice(), b"\n", b"200,01\n"] {
         let answer = comparison.better_offer(&[FIRING, behind].concat(), &FIRING_RECORD, &FIRING_RECORD);
         comparison.same(
@@ -60,6 +69,22 @@ fn by_name(comparison: &mut Comparison) {
         let answer = comparison.better_offer(&FIRING[..end], &FIRING_RECORD, &FIRING_RECORD);
         comparison.same("two offers for a front part of document 01's text", &end, [0; 4], answer);
     }
+}
+
+/// Offers with a term over filler alone for F-3's profile, here with band 5: the term counts, and what filler restores does not.
+fn over_filler(comparison: &mut Comparison) {
+    let one_term = Record { slots: 6, band: 5, rest: 0, terms: vec![Term { node: 13, value: 105 }] }.bytes();
+    let values = [(-20_000, 100), (100, 100), (100, 104), (100, 106)];
+    let [far, near, inexact, not_kept] = values.map(|values| with_filler_term(5, values));
+    let cases: [Case; 6] = [
+        ("a term over filler alone, the only candidate", &[], &far, [0, 2, 14, 0]),
+        ("a term over filler alone, beside one that is not kept", &far, &not_kept, [0, 1, 14, 0]),
+        ("a term over filler alone is a term more", &far, &one_term, [0, 2, 11, 0]),
+        ("the smaller error below n, filler far off, in the first buffer", &far, &inexact, [0, 1, 14, 0]),
+        ("the smaller error below n, filler far off, in the second buffer", &inexact, &far, [0, 2, 14, 0]),
+        ("equal below n, filler far off in the first buffer", &far, &near, [0, 1, 14, 0]),
+    ];
+    chosen(comparison, b"0\n0,05\n0\n0\n0\n0\n0\n1\n", &cases);
 }
 
 /// Every two of many buffers, in either order; and each beside the record that is built, for texts that are refused after their last good line.
@@ -76,13 +101,19 @@ fn every_pair(comparison: &mut Comparison, random: &mut Random, profile: &Profil
     }
 }
 
-/// Records for a profile, most of them candidates, each with bytes behind it too; the same damaged; and records for other profiles.
+/// Records for a profile, most of them candidates, some with terms over filler alone, each with bytes behind it too; the same
+/// damaged; and records for other profiles.
 fn buffers(comparison: &mut Comparison, random: &mut Random, profile: &Profile, text: &[u8]) -> Vec<Vec<u8>> {
     let built = comparison.text_to_record(text, byte_count(1_023)).1.unwrap_or_default();
     let leaves = [0, profile.band / 2, profile.band, profile.band + 1].map(|error| with_leaves(profile, error));
     let mut buffers = vec![built.clone()];
     buffers.extend(leaves.iter().map(Record::bytes));
     buffers.extend(leaves.iter().map(|record| with_root(record).bytes()));
+    let filler = filler_nodes(profile.setpoints.len());
+    if !filler.is_empty() {
+        let far = away(profile.setpoints[profile.setpoints.len() - 1], VALUE_LIMIT);
+        buffers.extend(leaves.iter().map(|record| with_terms_at(record, &filler, far).bytes()));
+    }
     let behind: Vec<u8> = (0..1 + random.below(9)).map(|_| random.next() as u8).collect();
     let lengthened: Vec<Vec<u8>> = buffers.iter().map(|record| [record.as_slice(), &behind].concat()).collect();
     buffers.extend(lengthened);
@@ -108,12 +139,13 @@ fn buffers(comparison: &mut Comparison, random: &mut Random, profile: &Profile, 
     buffers
 }
 
-/// A term on every leaf, so far from its setpoint, where the limits have such a value.
+/// A term on the leaf of every slot below n, so far from its setpoint, where the limits have such a value.
 fn with_leaves(profile: &Profile, error: i32) -> Record {
-    let all = padded(&profile.setpoints);
-    let term = |(slot, &setpoint): (usize, &i32)| Term { node: all.len() + slot, value: away(setpoint, error) };
-    let terms = all.iter().enumerate().map(term).collect();
-    Record { slots: profile.setpoints.len(), band: profile.band, rest: profile.rest, terms }
+    let slots = profile.setpoints.len();
+    let term =
+        |(slot, &setpoint): (usize, &i32)| Term { node: padded_length(slots) + slot, value: away(setpoint, error) };
+    let terms = profile.setpoints.iter().enumerate().map(term).collect();
+    Record { slots, band: profile.band, rest: profile.rest, terms }
 }
 
 /// The rest value at the root: one term more, except where the root is the only leaf.

@@ -1,6 +1,6 @@
 //! The program `fire` on texts of every kind: refused by each number, and printed in full where they are not.
 
-use super::instances::FIRING;
+use super::instances::{FIRING, PAST_THE_END};
 use crate::comparison::Comparison;
 use crate::document::SLOT_LIMIT;
 use crate::document::text::{Profile, write_text};
@@ -11,6 +11,10 @@ use crate::inputs::typed::{NO_NUMBERS, OUT_OF_RANGE, any_text, lines, text};
 /// What document 01 has `fire` print for its own text, to the letter.
 const FIRING_PRINTED: &str = "4 1 0,25 0,25\nterm 3 19,75\nslot 0 14,00\nslot 1 14,00\nslot 2 19,75\nslot 3 19,75\n";
 
+/// What `fire` prints for F-3's profile: it has one best synopsis.
+const PAST_THE_END_PRINTED: &str =
+    "6 1 0,00 0,00\nterm 13 1,00\nslot 0 0,00\nslot 1 0,00\nslot 2 0,00\nslot 3 0,00\nslot 4 0,00\nslot 5 1,00\n";
+
 /// The longest text that is accepted: 514 lines of eight characters and the byte 10.
 fn longest() -> Vec<u8> {
     [b"-200,004\n-000,004\n".as_slice(), &b"-200,004\n".repeat(SLOT_LIMIT)].concat()
@@ -20,6 +24,8 @@ pub fn run(comparison: &mut Comparison) {
     let mut random = Random::new(6);
     let printed = comparison.fire(FIRING);
     comparison.same("what fire prints for document 01's text", &"one firing in full", FIRING_PRINTED.into(), printed);
+    let printed = comparison.fire(PAST_THE_END);
+    comparison.same("what fire prints for F-3's profile", &"slots past the end", PAST_THE_END_PRINTED.into(), printed);
     one_slot(comparison);
     faults(comparison, &mut random);
     long_texts(comparison);

@@ -35,7 +35,7 @@ pub fn run(comparison: &mut Comparison) {
     }
 }
 
-fn every_slot(comparison: &mut Comparison, record: &Record) {
+pub fn every_slot(comparison: &mut Comparison, record: &Record) {
     let bytes = record.bytes();
     for slot in (0..=record.slots as u64 + 1).chain(FAR_SLOTS) {
         comparison.record_slot(&bytes, slot);
@@ -74,7 +74,7 @@ fn checked(comparison: &mut Comparison, random: &mut Random, record: &Record) {
 }
 
 /// What a record restores below n, as a profile; its rest value and band are not the record's and do not count.
-fn restored_profile(random: &mut Random, record: &Record) -> Profile {
+pub fn restored_profile(random: &mut Random, record: &Record) -> Profile {
     let first_leaf = padded_length(record.slots);
     let setpoint = |slot: usize| restored(&record.terms, record.rest, first_leaf + slot);
     Profile { rest: value(random), band: band(random), setpoints: (0..record.slots).map(setpoint).collect() }

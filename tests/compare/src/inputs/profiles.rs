@@ -9,7 +9,8 @@ use crate::document::{BAND_LIMIT, VALUE_LIMIT};
 type Shape = fn(&mut Random, usize) -> Vec<i32>;
 
 /// The kinds of setpoints.
-pub const SHAPES: [Shape; 8] = [anywhere, narrow, steps, ramp, alternating, at_the_limits, hundredths, fed_by_terms];
+pub const SHAPES: [Shape; 9] =
+    [anywhere, narrow, steps, ramp, alternating, at_the_limits, hundredths, fed_by_terms, ends_apart];
 
 /// Values at and near the limits and 0.
 pub const LIMIT_VALUES: [i32; 7] = [-VALUE_LIMIT, 1 - VALUE_LIMIT, -1, 0, 1, VALUE_LIMIT - 1, VALUE_LIMIT];
@@ -82,6 +83,13 @@ fn fed_by_terms(random: &mut Random, slots: usize) -> Vec<i32> {
         .collect()
 }
 
+/// A level that is held, and another in the last slots: terms for these meet filler at once.
+fn ends_apart(random: &mut Random, slots: usize) -> Vec<i32> {
+    let levels = [value(random), value(random)];
+    let last_slots = 1 + random.below(slots.min(3));
+    (0..slots).map(|slot| levels[usize::from(slot >= slots - last_slots)]).collect()
+}
+
 /// Some terms, ascending by node; `most` is how many are drawn.
 pub fn terms(random: &mut Random, slots: usize, most: usize) -> Vec<Term> {
     let nodes = 2 * padded_length(slots) - 1;
@@ -119,6 +127,27 @@ pub fn profile(random: &mut Random, shape: Shape, slots: usize) -> Profile {
 pub fn any_profile(random: &mut Random, slots: usize) -> Profile {
     let shape = *random.pick(&SHAPES);
     profile(random, shape, slots)
+}
+
+/// The nodes over filler alone: those whose first slot is n or more.
+pub fn filler_nodes(slots: usize) -> Vec<usize> {
+    let first_leaf = padded_length(slots);
+    let first_slot = |mut node: usize| {
+        while node < first_leaf {
+            node *= 2;
+        }
+        node - first_leaf
+    };
+    (1..2 * first_leaf).filter(|&node| first_slot(node) >= slots).collect()
+}
+
+/// A record with one value at some nodes, besides its terms at others.
+pub fn with_terms_at(record: &Record, nodes: &[usize], value: i32) -> Record {
+    let mut terms = record.terms.clone();
+    terms.retain(|term| !nodes.contains(&term.node));
+    terms.extend(nodes.iter().map(|&node| Term { node, value }));
+    terms.sort_unstable_by_key(|term| term.node);
+    Record { terms, ..record.clone() }
 }
 
 /// A record that is accepted, with up to `most` terms.
