@@ -21,7 +21,6 @@ use Rattle.claims.proofs.Exists.{walkedTerms, walked-keeps, walked-as-few}
 use Rattle.claims.proofs.Reduced.{best-at-least-error, error-is-band}
 use Rattle.claims.proofs.Reduced as Reduced
 use Rattle.claims.proofs.Widest.{widest-needs-none}
-use Rattle.subtree.specs.Answer.{termsFor}
 use Rattle.subtree.proofs.Slots.{windows-usable}
 use Rattle.subtree.proofs.Rows.{slots-below, profile-within, profile-needs}
 use Rattle.trace.specs.Trace.{Traced}
@@ -103,17 +102,14 @@ module _ (profile : List ℤ) (rest : ℤ) (budget : ℕ) (scratch : List ℤ) (
   abbrev near : InRange profile rest
   near = acceptable .in-range
 
-  needed-here : (band : ℕ) → termsFor band (height (length profile)) profile (lifted rest) ≡ fewestTerms profile rest band
-  needed-here = profile-needs near
-
   pub tree-searchable : Searchable 40000 (height (length profile)) (lifted rest) budget false profile scratch
   tree-searchable = record {
     solvable = profile-solvable near (acceptable .few-slots) 40000 (omega arith) scratch (acceptable .scratch-long);
-    enough = omega (arith, needed-here 40000, widest-needs-none near);
+    enough = omega (arith, profile-needs near 40000, widest-needs-none near);
     in-scratch = λ wrong. absurd (subst T (sym wrong) tt);
   }
 
   pub least-found : (band : ℕ) → LeastWithin 40000 (height (length profile)) (lifted rest) budget profile band
       → LeastBand profile rest budget band
   least-found band least =
-      Reduced.least-band near (omega (arith, least .enough, needed-here band)) (λ some. omega (arith, least .narrower-not some, needed-here (band - 1)))
+      Reduced.least-band near (omega (arith, least .enough, profile-needs near band)) (λ some. omega (arith, least .narrower-not some, profile-needs near (band - 1)))

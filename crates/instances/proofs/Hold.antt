@@ -56,6 +56,7 @@ starred-hold =
     and row-least-band hundreds-near (omega arith) (λ positive. omega arith)
     and row-builds last-hundred-near (omega arith) refl refl (λ positive. omega arith)
     and row-best last-hundred-near tt refl refl
+    and row-builds last-hundred-near (omega arith) refl refl (λ positive. omega arith)
     and row-builds three-hundreds-near (omega arith) refl refl (λ positive. omega arith)
     and row-best three-hundreds-near tt refl refl
     and tt

@@ -1,4 +1,4 @@
--- Document 01's starred instances, those of document 02's F-2 with its fault after a point, and that of its F-3 with one more, as one table. For the auditor. `proofs/Hold.antt` proves that every one holds.
+-- Document 01's starred instances, those of document 02's F-2 with its fault after a point, and that of its F-3 with two more, as one table. For the auditor. `proofs/Hold.antt` proves that every one holds.
 use mathlib.Core.Path.{_≡_}
 use mathlib.Core.List.{List, [], _∷_}
 use mathlib.Core.Option.{some}
@@ -93,6 +93,8 @@ starred =
     -- F-3: "0, 0, 0, 0, 0, 100 with rest 0 and band 0 drops from two terms to one", which is the term (13, 100)
     ∷ builds lastHundred (pos 0) 0 1 0
     ∷ hasBest lastHundred (pos 0) 0 (record { node = 13; value = pos 100 } ∷ [])
+    -- with band 60 too one term, and error 0: slots 6 and 7 have none; with a setpoint of 100 in them it would be 50
+    ∷ builds lastHundred (pos 0) 60 1 0
     -- filler accepts every value, and not the rest value alone: one term at the root serves three slots of 100
     ∷ builds threeHundreds (pos 0) 0 1 0
     ∷ hasBest threeHundreds (pos 0) 0 (record { node = 1; value = pos 100 } ∷ [])

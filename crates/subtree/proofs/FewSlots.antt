@@ -24,6 +24,7 @@ beside-filler window sorted = sym (both-met 0 (window .low) (window .high) 0 400
 no-slots-usable : Usable []
 no-slots-usable = record { each = λ leaf. every-value-usable }
 
+-- so it is at any height
 pub answer-few : (height : ℕ) {leaves : List Window} → Usable leaves → length leaves ≤ 1 → answer height leaves ≡ answer 0 leaves
 unfolding answer
 answer-few zero usable few = refl
@@ -32,6 +33,7 @@ answer-few (suc height) {leaves} usable few =
     let back : drop (2 ^ height) leaves ≡ [] = drop-of-length-le leaves {i = 2 ^ height} (omega (arith, pow-pos height)) in
     rw (front, back, answer-few height usable few, answer-few height no-slots-usable (omega arith)) (beside-filler (getD leaves 0 everyValue) (usable .each 0))
 
+-- and a leaf's answer in front solves the whole stretch, since no term is needed below
 pub few-solved : (height : ℕ) {leaves : List Window} → Usable leaves → length leaves ≤ 1 → (scratch : List ℤ) → LeafSolved leaves scratch → Solved height leaves (at scratch)
 unfolding Solved answer
 few-solved zero usable few scratch leaf = leaf .answer-is
