@@ -1,14 +1,12 @@
--- The tree over a profile: its height is the level of its first leaf, its setpoints can be solved for, and it needs no more terms than it has leaves.
-use mathlib.Core.Path.{_≡_, _∙_}
+-- The tree over a profile: its setpoints can be solved for, and it needs no more terms than it has leaves.
 use mathlib.Core.Bool.{Bool, true, false}
 use mathlib.Core.List.{List}
 use Prim.Native.Nat.{ℕ, _≤_}
 use native.Mathlib.Omega.{arith}
 use lib.IntN.{ℤ}
 use lib.ListN.{length}
-use lib.Pow.{pow-pos}
-use Rattle.histogram.specs.Tree.{height, padded, levelAnswer}
-use Rattle.histogram.proofs.Powers.{level-rule, level-only, level-in-table, height-reaches, height-bound, padded-bound}
+use Rattle.histogram.specs.Tree.{height, padded}
+use Rattle.histogram.proofs.Powers.{height-reaches, height-bound}
 use Rattle.fewest.specs.Node.{missed}
 use Rattle.claims.specs.Inner.{lifted, fewestTerms, InRange}
 use Rattle.windows.specs.Windows.{covers}
@@ -21,12 +19,6 @@ use Rattle.subtree.proofs.Rows.{profile-within, profile-needs}
 missed-once : (test : Bool) → missed test ≤ 1
 missed-once true = omega arith
 missed-once false = omega arith
-
-pub leaf-level : (slots : ℕ) → slots ≤ 512 → levelAnswer (padded slots) ≡ height slots
-leaf-level slots few =
-    let leaves = pow-pos (height slots) in
-    level-in-table (omega (arith, padded-bound few))
-    ∙ level-only (level-rule (padded slots) (omega arith)) (record { reached = omega arith; next-not = omega arith })
 
 module _ {profile : List ℤ} {rest : ℤ} (in-range : InRange profile rest) where
   pub profile-solvable : length profile ≤ 512 → (band : ℕ) → band ≤ 40000 → (scratch : List ℤ) → 12288 ≤ length scratch → Solvable band (height (length profile)) profile scratch

@@ -1,6 +1,4 @@
 // The tree over a profile: its height, the search for the least band there, and building.
-use histogram::level::level;
-use histogram::terms::padded_length;
 use subtree::count_terms;
 use subtree::solve;
 use trace::trace;
@@ -11,12 +9,19 @@ ghost use lib.ListN.{length};
 ghost use Rattle.histogram.specs.Tree.{height};
 ghost use Rattle.build.specs.Inner.{Searchable, BandFound, LeastSolved, TreeFits, TreeBuilt};
 
-// The height of the tree over a number of slots: the level of its first leaf.
+// The height of the tree over a number of slots: how often one leaf is doubled until each slot has one.
+// The count has 8 bits, as a level has: with 32 a build takes more instructions.
 pub fn height_over(slots: usize) -> u32
     requires { ⌜ slots ≤ 512 ⌝ }
     ensures { λ r. ⌜ r ≡ height slots ⌝ }
 {
-    level(padded_length(slots) as u16) as u32
+    let mut height: u8 = 0;
+    let mut leaves = 1;
+    while leaves < slots {
+        leaves = leaves * 2;
+        height += 1;
+    }
+    height as u32
 }
 
 // The band that a search found, and whether scratch is solved for it.

@@ -1,6 +1,7 @@
 pub mod Above
 pub mod Ascent
 pub mod Counted
+pub mod Doubling
 pub mod Expected
 pub mod Handing
 pub mod Lookup
@@ -8,5 +9,4 @@ pub mod Order
 pub mod Paired
 pub mod Powers
 pub mod Refusals
-pub mod Table
 pub mod Within

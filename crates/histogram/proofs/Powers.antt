@@ -3,10 +3,11 @@
 use mathlib.Core.Path.{_≡_, refl}
 use mathlib.Core.Bool.{Bool, true, false, cond}
 use mathlib.Core.Logic.{_⊎_, inl, inr, ⊎-elim}
-use Prim.Native.Nat.{ℕ, zero, suc, _/_, _^_, _≤_, _<_}
+use Prim.Native.Nat.{ℕ, zero, suc, _+_, _/_, _^_, _≤_, _<_}
 use native.Mathlib.Omega.{arith}
 use lib.Dec.{leb}
 use lib.Pow.{pow-pos, pow-mono}
+use lib.Count.{leadingZeros, leading-top}
 use borrow.Author.Tests.{leb-true, leb-false, le-ltb}
 use Rattle.histogram.specs.Tree.{height, padded, IsLevel, levelOf, levelAnswer}
 use Rattle.histogram.proofs.Order.{below-or-not}
@@ -56,6 +57,13 @@ level-only {i} {e} {f} one other =
     (λ not-less. ⊎-elim (λ more. absurd (not-lower other one more)) (λ not-more. omega arith) (below-or-not f e))
     (below-or-not e f)
 
+-- a number in `width` bits: the zeros above its highest set bit, that bit, and below it as many bits as the level says
+pub zeros-above : (width : ℕ) {node : ℕ} → 1 ≤ node → node < 2 ^ width → leadingZeros width node + suc (levelOf node) ≡ width
+zeros-above width {node} from-one fits =
+    let highest = leading-top width node from-one fits in
+    let same : levelOf node ≡ highest .0 = level-only (level-rule node from-one) (record { reached = highest .2; next-not = highest .3 }) in
+    rw same (highest .1)
+
 -- the node above stands one level higher
 pub level-half : (i : ℕ) → 2 ≤ i → levelOf i ≡ suc (levelOf (i / 2))
 level-half i from-two =
@@ -69,12 +77,12 @@ pub padded-bound : {n : ℕ} → n ≤ 512 → padded n ≤ 512
 padded-bound few = pow-mono (height-bound few)
 
 pub level-bound : {node : ℕ} → 1 ≤ node → node ≤ 1023 → levelOf node ≤ 9
-level-bound {node} from-one in-table =
+level-bound {node} from-one in-tree =
     let level = level-rule node from-one in
     ⊎-elim
     (λ less. omega arith)
     (λ more. absurd (omega (arith, level .reached, pow-mono {i = 10} more)))
     (below-or-not (levelOf node) 10)
 
-pub level-in-table : {node : ℕ} → node ≤ 1023 → levelAnswer node ≡ levelOf node
-level-in-table {node} in-table = rw (le-ltb 1023 node in-table)
+pub level-in-tree : {node : ℕ} → node ≤ 1023 → levelAnswer node ≡ levelOf node
+level-in-tree {node} in-tree = rw (le-ltb 1023 node in-tree)

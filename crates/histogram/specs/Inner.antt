@@ -25,7 +25,7 @@ pub record Searchable (nodes : List ℕ) (values : List ℤ) (node : ℕ) : Type
   pub same-length : length nodes ≡ length values
   pub ascending : Ascending nodes
   pub from-root : 1 ≤ node
-  pub in-table : node ≤ 1023
+  pub in-tree : node ≤ 1023
 
 -- a valid list of terms with nodes below `end`, and room for the value at each node
 pub record Handing (end : ℕ) (nodes : List ℕ) (values : List ℤ) (before : List ℤ) : Type 0 where

@@ -1,4 +1,4 @@
--- The tree over the slots: document 01, "The setpoint in a slot", its first paragraph. For the auditor.
+-- The tree over the slots: document 01, "The setpoint in a slot", its first paragraph, with document 02's F-4. For the auditor.
 -- `proofs/Powers.antt` shows beside each definition that it is what its words say: `height-reaches`, `height-least`, `level-rule`, `level-only`.
 use mathlib.Core.Bool.{cond}
 use Prim.Native.Nat.{ℕ, zero, suc, _^_, _≤_, _<_}
@@ -23,6 +23,6 @@ unfoldable pub levelOf : ℕ → ℕ
 levelOf zero = 0
 levelOf (suc i) = cond (leb (2 ^ suc (levelOf i)) (suc i)) (suc (levelOf i)) (levelOf i)
 
--- the table's answer: "its entry 0 is 0, and a number above 1,023 is answered with 0"
+-- F-4, "Node 0 and numbers above 1,023 still give 0": the level that a number is answered with
 abbrev pub levelAnswer : ℕ → ℕ
 levelAnswer node = cond (ltb 1023 node) 0 (levelOf node)

@@ -1,5 +1,4 @@
-// Runs the documents' instances of numbers, texts, levels, restoring and records, others beside them, and choices of two offers, and prints each with its answer.
-mod levels;
+// Runs the documents' instances of numbers, texts, restoring and records, others beside them, and choices of two offers, and prints each with its answer.
 mod numbers;
 mod records;
 mod restoring;
@@ -9,7 +8,6 @@ mod winners;
 fn main() {
     numbers::run();
     texts::run();
-    levels::run();
     restoring::run();
     records::run();
     winners::run();

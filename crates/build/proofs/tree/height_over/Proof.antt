@@ -1,28 +1,44 @@
--- `build::tree::height_over` meets its contract.
-use borrow.Author.Needs.{needs}
-use mathlib.Core.Path.{ap, _∙_}
+-- `build::tree::height_over` meets its contract. The invariant: the leaves are what so many doublings have come to. The measure is what they lack of `slots`.
+use Prim.Native.Nat.{_-_, _≤_}
 use native.Mathlib.Omega.{arith}
-use Rattle.histogram.specs.Tree.{levelAnswer}
-use Rattle.histogram.proofs.Powers.{padded-bound}
-use Rattle.build.proofs.Trees.{leaf-level}
+use native.Mathlib.Numerals.{add-one}
+use lib.Pow.{pow-pos}
+use Rattle.histogram.proofs.Powers.{height-bound}
+use Rattle.histogram.proofs.Doubling.{Doubled, one-leaf, once-more, doubled-enough}
 use Rattle.build.proofs.tree.height_over.Statement.{statement}
 use Rattle.build.proofs.tree.height_over.Tie as tie
 
-padded-length-requires : tie.Need-padded-length-requires
-padded-length-requires c κs = search needs
+abbrev Inv-loop : tie.InvT-loop
+Inv-loop slots height₀ leaves₀ height leaves = Doubled slots height leaves
 
-cast-level : tie.Need-cast-level
-cast-level c = record { fits = omega (arith, c .padded-length .ensures, padded-bound (c .before .pre)) }
+abbrev μ-loop : tie.MeasureT-loop
+μ-loop slots height₀ leaves₀ height leaves = slots - leaves
 
-level-requires : tie.Need-level-requires
-level-requires c κs = search needs
+loop-holds : tie.Need-loop-holds Inv-loop μ-loop
+loop-holds c = one-leaf (c .args .slots)
 
-cast-result : tie.Need-cast-result
-cast-result c = search needs
+mul-leaves : tie.Need-mul-leaves Inv-loop μ-loop
+mul-leaves c = omega arith
 
-returns : tie.Need-returns
-returns c = c .level .ensures ∙ ap levelAnswer (c .before .padded-length .ensures) ∙ leaf-level (c .before .before .args .slots) (c .before .before .pre)
+few : (c : tie.At-loop Inv-loop μ-loop) → c .loop .height ≤ 9
+few c = omega (arith, c .loop .inv .not-past, height-bound (c .before .pre))
+
+add-height : tie.Need-add-height Inv-loop μ-loop
+add-height c = omega (arith, few (c .before))
+
+loop-less : tie.Need-loop-less Inv-loop μ-loop
+loop-less c = let loop = c .before .loop in omega (arith, loop .inv .is-power, pow-pos (loop .height))
+
+loop-again : tie.Need-loop-again Inv-loop μ-loop
+loop-again c = let loop = c .before .loop in rw (add-one (loop .height)) (once-more (loop .inv) (c .loop-test .taken))
+
+cast-result : tie.Need-cast-result Inv-loop μ-loop
+cast-result c = record { fits = omega (arith, few (c .before)) }
+
+returns : tie.Need-returns Inv-loop μ-loop
+returns c = doubled-enough (c .before .loop .inv) (c .loop-test .left)
 
 pub height-over-spec : {M : Type 1} → statement M
 height-over-spec =
-    tie.close (tie.spec padded-length-requires cast-level level-requires cast-result returns)
+    tie.close
+    (tie.spec Inv-loop μ-loop loop-holds mul-leaves add-height loop-less loop-again cast-result returns)

@@ -26,7 +26,7 @@ returns c = record { refusal-is = rw (c .before .before .pre .1, le-leb _ _ (c .
 padded-length-requires : tie.Need-padded-length-requires
 padded-length-requires c κs = accepted-here (c .before .before) .slots .few-slots
 
--- the slot's node is in the table
+-- the slot's node is one of the 1,023 of the largest tree
 node-bound : (c : tie.After-padded-length) → c .padded-length .result + c .before .before .before .args .slot ≤ 1023
 node-bound c =
     let few = accepted-here (c .before .before .before) .slots .few-slots in
@@ -49,7 +49,7 @@ restore-node-requires c κs =
       same-length = start .pre .0;
       ascending = ascends (args .nodes .now) (args .values .now) (start .pre .0) (record { passes = accepted-here start .terms-valid });
       from-root = omega (arith, c .padded-length .ensures, pow-pos (height (args .slots)));
-      in-table = node-bound c;
+      in-tree = node-bound c;
     }
 
 returns-2 : tie.Need-returns-2

@@ -16,7 +16,7 @@ use Rattle.histogram.specs.Terms.{paired, termOr}
 use Rattle.histogram.specs.Restored.{restored, restoredAt}
 use Rattle.histogram.proofs.Above.{path-of-node, one-step-up}
 use Rattle.histogram.proofs.Lookup.{found-term, found-none}
-use Rattle.histogram.proofs.Powers.{level-bound, level-in-table}
+use Rattle.histogram.proofs.Powers.{level-bound, level-in-tree}
 use Rattle.histogram.proofs.restore.restore_node.Statement.{statement}
 use Rattle.histogram.proofs.restore.restore_node.Tie as tie
 
@@ -31,10 +31,10 @@ level-requires : tie.Need-level-requires Inv-loop μ-loop
 level-requires c κs = search needs
 
 level-is : (c : tie.After-level Inv-loop μ-loop) → c .level .result ≡ levelOf (c .before .before .args .node)
-level-is c = c .level .ensures ∙ level-in-table (c .before .before .pre .in-table)
+level-is c = c .level .ensures ∙ level-in-tree (c .before .before .pre .in-tree)
 
 add-left : tie.Need-add-left Inv-loop μ-loop
-add-left c = let pre = c .before .before .pre in omega (arith, level-is c, level-bound (pre .from-root) (pre .in-table))
+add-left c = let pre = c .before .before .pre in omega (arith, level-is c, level-bound (pre .from-root) (pre .in-tree))
 
 loop-holds : tie.Need-loop-holds Inv-loop μ-loop
 loop-holds c =
