@@ -1,5 +1,5 @@
-//! Document 01, "The setpoint in a slot", with document 02's F-3: nodes, terms, the restored setpoint and its error; and the
-//! check's verdict. "From now on filler carries no setpoint": what looks at errors looks at slots below n alone.
+//! Document 01, "The setpoint in a slot", with document 02's F-3 and F-4: nodes, levels, terms, the restored setpoint and its
+//! error; and the check's verdict. "From now on filler carries no setpoint": what looks at errors looks at slots below n alone.
 
 /// A node number and a value.
 #[derive(Clone, Copy, Debug, PartialEq)]
@@ -15,6 +15,11 @@ pub fn padded_length(slots: usize) -> usize {
         length *= 2;
     }
     length
+}
+
+/// The number e with 2^e <= i < 2^(e+1). "Node 0 and numbers above 1,023 still give 0."
+pub fn level(number: u16) -> u8 {
+    (0..=9).find(|&e| 1_u16 << e <= number && number < 1_u16 << (e + 1)).unwrap_or(0)
 }
 
 /// The value of the lowest term on the path from a node up to the root; with none, the rest value. Terms ascend by node.

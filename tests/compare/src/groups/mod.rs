@@ -4,6 +4,7 @@ mod budgets;
 mod filler;
 mod firings;
 mod instances;
+mod levels;
 mod numbers;
 mod offers;
 mod program;
@@ -15,9 +16,10 @@ use crate::comparison::Comparison;
 
 pub type Group = fn(&mut Comparison);
 
-pub const ALL: [(&str, Group); 10] = [
+pub const ALL: [(&str, Group); 11] = [
     ("the second program against itself", self_check::run),
     ("the documents' instances", instances::run),
+    ("levels of all numbers of 16 bits", levels::run),
     ("numbers as typed", numbers::run),
     ("texts, good and damaged", texts::run),
     ("firings: built, restored, checked", firings::run),
