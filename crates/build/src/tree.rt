@@ -10,7 +10,7 @@ ghost use Rattle.histogram.specs.Tree.{height};
 ghost use Rattle.build.specs.Inner.{Searchable, BandFound, LeastSolved, TreeFits, TreeBuilt};
 
 // The height of the tree over a number of slots: how often one leaf is doubled until each slot has one.
-// The count has 8 bits, as a level has: with 32 a build takes more instructions.
+// The count has 8 bits, as a level has: with 32 some builds take more instructions.
 pub fn height_over(slots: usize) -> u32
     requires { ⌜ slots ≤ 512 ⌝ }
     ensures { λ r. ⌜ r ≡ height slots ⌝ }
