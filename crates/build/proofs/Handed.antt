@@ -1,8 +1,8 @@
--- From what was built over the tree to a best synopsis of the profile, handed over.
+-- From what was built over the tree to the first best synopsis of the profile, handed over.
 use mathlib.Core.Path.{_≡_, refl, sym, ap, ap₂, subst, _∙_}
 use mathlib.Core.Bool.{false}
 use mathlib.Core.List.{List}
-use Prim.Native.Nat.{ℕ, _-_, _≤_, _<_}
+use Prim.Native.Nat.{ℕ, _-_}
 use native.Mathlib.Omega.{arith}
 use lib.Dec.{T}
 use lib.IntN.{ℤ}
@@ -13,20 +13,18 @@ use Rattle.histogram.specs.Tree.{height}
 use Rattle.histogram.specs.Terms.{paired, nodesOf, valuesOf}
 use Rattle.histogram.specs.Errors.{greatestError}
 use Rattle.histogram.proofs.Paired.{paired-again}
-use Rattle.claims.specs.Best.{Best}
 use Rattle.claims.specs.LeastBand.{LeastBand}
-use Rattle.claims.specs.Inner.{lifted, fewestTerms, InRange}
+use Rattle.claims.specs.Inner.{lifted, InRange}
 use Rattle.claims.proofs.Lifted.{lifted-within}
-use Rattle.claims.proofs.Exists.{walkedTerms, walked-keeps, walked-as-few}
-use Rattle.claims.proofs.Reduced.{best-at-least-error, error-is-band}
+use Rattle.claims.proofs.Exists.{walkedTerms, walked-as-few}
+use Rattle.claims.proofs.First.{Narrowest, walked-error, synopsis-walked}
 use Rattle.claims.proofs.Reduced as Reduced
 use Rattle.claims.proofs.Widest.{widest-needs-none}
-use Rattle.subtree.proofs.Slots.{windows-usable}
-use Rattle.subtree.proofs.Rows.{slots-below, profile-within, profile-needs}
+use Rattle.subtree.proofs.Rows.{profile-needs}
 use Rattle.trace.specs.Trace.{Traced}
-use Rattle.trace.proofs.Walked.{upper-terms-walked}
+use Rattle.trace.proofs.Walked.{profile-walked}
 use Rattle.build.specs.Building.{handedOver}
-use Rattle.build.specs.Inner.{tracedFor, Searchable, LeastWithin, Acceptable, Buildable, TreeFits, TreeBuilt, BestBuilt}
+use Rattle.build.specs.Inner.{Searchable, LeastWithin, Acceptable, Buildable, TreeFits, TreeBuilt, FirstBuilt}
 use Rattle.build.proofs.Trees.{profile-solvable, few-needed}
 
 module _ {terms : List Term} {nodes nodes′ : List ℕ} {values values′ : List ℤ} {count : ℕ} (traced : Traced terms nodes nodes′ values values′ count) where
@@ -54,45 +52,34 @@ module _ (profile : List ℤ) (rest : ℤ) (band : ℕ) (nodes : List ℕ) (valu
   in-range : InRange profile rest
   in-range = buildable .acceptable .in-range
 
-  -- the terms traced for a band are those that the theory's walk leaves
-  terms-walked : (error : ℕ) → tracedFor error (height (length profile)) profile (lifted rest) ≡ walkedTerms in-range error
-  terms-walked error = upper-terms-walked in-range error (windows-usable error (profile-within in-range)) (slots-below profile error (profile-within in-range))
-
   pub tree-fits : TreeFits band (height (length profile)) (lifted rest) profile nodes values scratch
   tree-fits = record {
     solvable = profile-solvable in-range (buildable .acceptable .few-slots) band (buildable .band-within) scratch (buildable .acceptable .scratch-long);
     value-within = lifted-within rest (in-range .rest-within);
     room = λ error.
-        omega (arith, ap (λ (terms : List Term). length terms) (terms-walked error), walked-as-few in-range error, few-needed in-range error, buildable .destination-long);
+        omega (arith, ap (λ (terms : List Term). length terms) (profile-walked in-range error), walked-as-few in-range error, few-needed in-range error, buildable .destination-long);
     same-room = sym (buildable .same-length);
   }
 
   module _ (nodes′ : List ℕ) (values′ : List ℤ) (count error : ℕ)
       (built : TreeBuilt band (height (length profile)) (lifted rest) profile nodes nodes′ values values′ count error) where
     terms-are : handedOver count nodes′ values′ ≡ walkedTerms in-range error
-    terms-are = handed-over (built .traced) ∙ terms-walked error
+    terms-are = handed-over (built .traced) ∙ profile-walked in-range error
 
-    as-few : fewestTerms profile rest error ≤ fewestTerms profile rest band
-    as-few = omega (arith, built .least .enough, profile-needs in-range error, profile-needs in-range band)
+    -- its greatest error is the narrowest band that needs no more terms than the band given
+    narrowest : Narrowest profile rest band error
+    narrowest = record {
+      within = built .least .within-top;
+      no-more = omega (arith, built .least .enough, profile-needs in-range error, profile-needs in-range band);
+      narrower-more = λ some. omega (arith, built .least .narrower-not some, profile-needs in-range (error - 1), profile-needs in-range band);
+    }
 
-    needs-more : 0 < error → length (walkedTerms in-range error) < fewestTerms profile rest (error - 1)
-    needs-more some =
-        omega (
-          arith,
-          built .least .narrower-not some,
-          as-few,
-          walked-as-few in-range error,
-          profile-needs in-range (error - 1),
-          profile-needs in-range band,
-        )
-
-    pub best-built : BestBuilt profile rest band (record { refusal = 0; count = count; error = error }) nodes nodes′ values values′
-    best-built = record {
+    pub first-built : FirstBuilt profile rest band (record { refusal = 0; count = count; error = error }) nodes nodes′ values values′
+    first-built = record {
       refusal-is = refl;
-      best = subst (Best profile rest band) (sym terms-are)
-          (best-at-least-error in-range (built .least .within-top) (walked-keeps in-range error) (walked-as-few in-range error) as-few needs-more);
+      terms-are = terms-are ∙ sym (synopsis-walked in-range narrowest);
       count-is = built .traced .count-is ∙ ap (λ (terms : List Term). length terms) (sym (handed-over (built .traced)));
-      error-is = sym (ap (greatestError profile rest) terms-are ∙ error-is-band in-range (walked-keeps in-range error) needs-more);
+      error-is = sym (ap (greatestError profile rest) terms-are ∙ walked-error in-range narrowest);
       nodes-past = nodes-same (built .traced);
       values-past = values-same (built .traced);
     }

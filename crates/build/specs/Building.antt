@@ -1,5 +1,5 @@
 -- Building: document 01, "Building, checking, least band", and demands 1 and 3. For the auditor.
--- What a best synopsis is stands in `claims/specs/Best.antt`.
+-- What a best synopsis is stands in `claims/specs/Best.antt`, and which of several is the first in `claims/specs/First.antt`.
 use mathlib.Core.Path.{_≡_}
 use mathlib.Core.Bool.{Bool, _||_}
 use mathlib.Core.List.{List, []}
@@ -13,7 +13,7 @@ use Rattle.histogram.specs.declared.Term.{Term}
 use Rattle.histogram.specs.Tree.{padded}
 use Rattle.histogram.specs.Terms.{paired}
 use Rattle.histogram.specs.Errors.{greatestError}
-use Rattle.claims.specs.Best.{Best}
+use Rattle.claims.specs.First.{firstSynopsis}
 use Rattle.build.specs.declared.BuildAnswer.{BuildAnswer}
 
 -- what is wrong with setpoints and their rest value: 4, then "2 (rest first)"
@@ -32,11 +32,10 @@ abbrev pub buildRefusal : List ℤ → ℤ → ℤ → ℕ → ℕ → ℕ
 buildRefusal profile rest band places numbers =
     valuesRefusal profile rest then 3 when outsideBand band then 6 when (destinationShort profile places || scratchShort numbers)
 
--- "the terms, their count and the greatest error": of the terms handed over, which are none on a refusal
+-- "the terms, their count and the greatest error": the terms handed over are the first best synopsis, and none on a refusal
 pub record Built (profile : List ℤ) (rest band : ℤ) (places numbers : ℕ) (answer : BuildAnswer) (terms : List Term) : Type 0 where
   pub refusal-is : answer .refusal ≡ buildRefusal profile rest band places numbers
-  pub best : answer .refusal ≡ 0 → Best profile rest (natAbs band) terms
-  pub none-refused : 0 < answer .refusal → terms ≡ []
+  pub terms-are : terms ≡ granted (answer .refusal) (firstSynopsis profile rest (natAbs band)) []
   pub count-is : answer .count ≡ length terms
   pub error-is : answer .error ≡ granted (answer .refusal) (greatestError profile rest terms) 0
 

@@ -9,7 +9,7 @@ use Rattle.limits.specs.Limits.{outsideBand}
 use Rattle.histogram.specs.Tree.{padded}
 use Rattle.histogram.specs.Errors.{greatestError}
 use Rattle.claims.specs.Inner.{InRange}
-use Rattle.claims.specs.Best.{Best}
+use Rattle.claims.specs.First.{firstSynopsis}
 use Rattle.histogram.specs.declared.Term.{Term}
 use Rattle.windows.specs.Scratch.{at}
 use Rattle.subtree.specs.Answer.{slotWindows, termsFor}
@@ -76,10 +76,10 @@ pub record Buildable (profile : List ℤ) (rest : ℤ) (band : ℕ) (nodes : Lis
   pub same-length : length nodes ≡ length values
   pub destination-long : padded (length profile) ≤ length nodes
 
--- a best synopsis is handed over
-pub record BestBuilt (profile : List ℤ) (rest : ℤ) (band : ℕ) (answer : BuildAnswer) (nodes nodes′ : List ℕ) (values values′ : List ℤ) : Type 0 where
+-- the first best synopsis is handed over
+pub record FirstBuilt (profile : List ℤ) (rest : ℤ) (band : ℕ) (answer : BuildAnswer) (nodes nodes′ : List ℕ) (values values′ : List ℤ) : Type 0 where
   pub refusal-is : answer .refusal ≡ 0
-  pub best : Best profile rest band (handedOver (answer .count) nodes′ values′)
+  pub terms-are : handedOver (answer .count) nodes′ values′ ≡ firstSynopsis profile rest band
   pub count-is : answer .count ≡ length (handedOver (answer .count) nodes′ values′)
   pub error-is : answer .error ≡ greatestError profile rest (handedOver (answer .count) nodes′ values′)
   pub nodes-past : drop (answer .count) nodes′ ≡ drop (answer .count) nodes

@@ -1,4 +1,4 @@
-// Building the best synopsis of a profile, and the least band for a number of terms.
+// Building the first best synopsis of a profile, and the least band for a number of terms.
 // Terms are handed over in two slices of equal length, their nodes and their values.
 mod tree;
 
@@ -12,7 +12,7 @@ ghost use lib.ListN.{length};
 ghost use Rattle.claims.specs.LeastBand.{LeastBand};
 ghost use Rattle.build.specs.Building.{valuesRefusal, scratchShort, buildRefusal, Built, handedOver, MemoryLeft};
 ghost use Rattle.build.specs.LeastBand.{leastBandRefusal, LeastBandFound};
-ghost use Rattle.build.specs.Inner.{Acceptable, Buildable, BestBuilt};
+ghost use Rattle.build.specs.Inner.{Acceptable, Buildable, FirstBuilt};
 
 // Building's answer: how many terms were handed over, and their greatest error.
 pub struct BuildAnswer {
@@ -21,7 +21,7 @@ pub struct BuildAnswer {
     pub error: u16,
 }
 
-// Builds the synopsis with the fewest terms that keeps the band and, among those, the least greatest error.
+// Builds the synopsis with the fewest terms that keeps the band and, among those, the least greatest error; of several such, the first.
 pub fn build_synopsis(
     setpoints: &[i16],
     rest: i32,
@@ -42,7 +42,7 @@ pub fn build_synopsis(
             error: 0,
         };
     }
-    build_best(setpoints, rest, band as u32, nodes, values, scratch)
+    build_first(setpoints, rest, band as u32, nodes, values, scratch)
 }
 
 // The number that refuses building; 0 for none.
@@ -89,7 +89,7 @@ fn is_scratch_short(numbers: usize) -> bool
 }
 
 // Builds where nothing is refused.
-fn build_best(
+fn build_first(
     setpoints: &[i16],
     rest: i32,
     band: u32,
@@ -98,7 +98,7 @@ fn build_best(
     scratch: &mut [i16],
 ) -> BuildAnswer
     requires { ⌜ Buildable (now setpoints) rest band (now nodes) (now values) (now scratch) ⌝ }
-    ensures { λ r. ⌜ BestBuilt (now (setpoints .entry)) rest band r (now (nodes .entry)) (now (nodes .exit)) (now (values .entry)) (now (values .exit)) ⌝ }
+    ensures { λ r. ⌜ FirstBuilt (now (setpoints .entry)) rest band r (now (nodes .entry)) (now (nodes .exit)) (now (values .entry)) (now (values .exit)) ⌝ }
 {
     let height = height_over(setpoints.len());
     let value = lift(rest);

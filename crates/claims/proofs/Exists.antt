@@ -1,4 +1,4 @@
--- The fewest terms are reached: the walk from the root down, gathered into a list, keeps the band with as many.
+-- The fewest terms are reached: the walk from the root down, gathered into a list, keeps the band with as many, and leads every other list that does.
 use mathlib.Core.Path.{_≡_, refl, ap, sym, _∙_}
 use mathlib.Core.Bool.{Bool, true, false, cond}
 use mathlib.Core.Option.{Option, none, some}
@@ -18,17 +18,18 @@ use Rattle.fewest.specs.Node.{placed, Within, bestValue, chosen}
 use Rattle.fewest.specs.Tree.{binary, ancestor}
 use Rattle.fewest.specs.Cost.{cost}
 use Rattle.fewest.specs.Walk.{restoredFrom, Made}
-use Rattle.fewest.specs.Terms.{lookup, Smallest}
+use Rattle.fewest.specs.Terms.{lookup, Leads, Smallest}
 use Rattle.fewest.specs.Row.{Inhabited}
 use Rattle.fewest.proofs.Best.{best-within}
 use Rattle.fewest.proofs.Binary.{level-from, level-below}
 use Rattle.fewest.proofs.Fewest.{made-reaches-fewest}
+use Rattle.fewest.proofs.Leading.{walk-leads}
 use Rattle.claims.specs.Best.{KeepingSynopsis}
 use Rattle.claims.specs.LeastBand.{CanKeep}
 use Rattle.claims.specs.Inner.{lifted, accepts, termNode, termValue, fewestTerms, InRange, gathered, comesIn, walked}
 use Rattle.claims.proofs.Lifted.{lifted-within}
 use Rattle.claims.proofs.Gathered.{gathered-looks-up, gathered-valid}
-use Rattle.claims.proofs.Theory.{near-accepted, valid-is-listed, keeps-from-theory}
+use Rattle.claims.proofs.Theory.{near-accepted, valid-is-listed, keeps-in-theory, keeps-from-theory}
 
 -- what is chosen at a node is at most 40,000
 chosen-within : (costOf : ℕ → ℕ) (above : ℕ) → Within 40000 (chosen 40000 costOf above)
@@ -93,13 +94,17 @@ module _ {profile : List ℤ} {rest : ℤ} (in-range : InRange profile rest) (ba
   walked-valid =
       gathered-valid _ (λ node. chosen-within _ _) 0 1 (2 * padded (length profile) - 1) (2 * padded (length profile)) (omega arith) (omega (arith, pow-pos (height (length profile)))) .passes
 
+  -- made node by node as the theory's walk
+  walked-made : Made binary (accepts profile band) 40000 (height (length profile)) (lifted rest) (lookup termNode termValue walkedTerms)
+  walked-made =
+      walk-is-made (accepts profile band) (height (length profile)) (lifted rest) (lookup termNode termValue walkedTerms)
+      (λ node from below. gathered-looks-up _ 1 (2 * padded (length profile) - 1) node from (omega (arith, pow-pos (height (length profile)))))
+
   -- that is one of the smallest, by the theory
   walked-smallest : Smallest termNode termValue binary (accepts profile band) 40000 (height (length profile)) (lifted rest) walkedTerms
   walked-smallest =
       made-reaches-fewest termNode termValue binary (accepts profile band) 40000 (height (length profile)) (lifted rest) some-accepted walkedTerms
-      (valid-is-listed (length profile) walkedTerms walked-valid)
-      (walk-is-made (accepts profile band) (height (length profile)) (lifted rest) (lookup termNode termValue walkedTerms)
-      (λ node from below. gathered-looks-up _ 1 (2 * padded (length profile) - 1) node from (omega (arith, pow-pos (height (length profile))))))
+      (valid-is-listed (length profile) walkedTerms walked-valid) walked-made
 
   -- so it keeps the band
   pub walked-keeps : KeepingSynopsis profile rest band walkedTerms
@@ -108,6 +113,13 @@ module _ {profile : List ℤ} {rest : ℤ} (in-range : InRange profile rest) (ba
   -- with the fewest terms
   pub walked-as-few : length walkedTerms ≡ fewestTerms profile rest band
   walked-as-few = walked-smallest .length-is
+
+  -- and it leads every other that keeps the band with as few
+  pub walked-leads : (other : List Term) → KeepingSynopsis profile rest band other → length other ≡ fewestTerms profile rest band → Leads termNode termValue walkedTerms other
+  walked-leads other keeping as-few =
+      walk-leads termNode termValue binary (accepts profile band) 40000 (height (length profile)) (lifted rest) walkedTerms other
+      (valid-is-listed (length profile) walkedTerms walked-valid) walked-made walked-smallest (valid-is-listed (length profile) other (keeping .valid))
+      (record { keeps = keeps-in-theory in-range other (keeping .valid) band (keeping .keeps); length-is = as-few })
 
   -- a band that needs no more terms than a budget can be kept within it
   pub budget-suffices : {budget : ℕ} → fewestTerms profile rest band ≤ budget → CanKeep profile rest budget band

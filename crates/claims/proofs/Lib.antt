@@ -4,3 +4,8 @@ pub mod Gathered
 pub mod Exists
 pub mod Reduced
 pub mod Widest
+pub mod InOrder
+pub mod Selected
+pub mod Enumerated
+pub mod Chosen
+pub mod First

@@ -1,11 +1,11 @@
 -- Values lifted by 20,000: the distance of two of them is the absolute difference of the values.
-use mathlib.Core.Path.{_≡_, refl}
+use mathlib.Core.Path.{_≡_, refl, ap}
 use mathlib.Core.Bool.{Bool, true, false, cond}
 use Prim.Native.Nat.{ℕ, zero, suc, _+_, _-_, _≤_}
 use native.Mathlib.Omega.{arith}
 use lib.Dec.{ltb}
 use lib.IntN.{ℤ, pos, negsuc, _-ℤ_, subℕ, natAbs}
-use borrow.Author.Tests.{ltb-true, ltb-false}
+use borrow.Author.Tests.{ltb-true, ltb-false, lt-ltb, le-ltb}
 use Rattle.claims.specs.Inner.{lifted, lowered, distance}
 
 pub lifted-within : (z : ℤ) → natAbs z ≤ 20000 → lifted z ≤ 40000
@@ -34,6 +34,11 @@ lifted-lowered number = split (ltb number 20000) refl
     split : (test : Bool) → ltb number 20000 ≡ test → lifted (cond test (negsuc (20000 - suc number)) (pos (number - 20000))) ≡ number
     split true answer = let below = ltb-true number 20000 answer in omega arith
     split false answer = let from = ltb-false number 20000 answer in omega arith
+
+-- a value within ±20,000, lifted and lowered again, is the value
+pub lowered-lifted : (z : ℤ) → natAbs z ≤ 20000 → lowered (lifted z) ≡ z
+lowered-lifted (pos n) within = rw (le-ltb (20000 + n) 20000 (omega arith)) (ap pos (omega arith))
+lowered-lifted (negsuc n) within = rw (lt-ltb (20000 - suc n) 20000 (omega arith)) (ap negsuc (omega arith))
 
 pub lowered-within : (number : ℕ) → number ≤ 40000 → natAbs (lowered number) ≤ 20000
 lowered-within number within = omega (arith, size-of-difference number 20000)

@@ -51,7 +51,7 @@ module _ {profile : List ℤ} {rest : ℤ} (in-range : InRange profile rest) whe
   error-needs : {band : ℕ} {terms : List Term} → KeepingSynopsis profile rest band terms → fewestTerms profile rest (greatestError profile rest terms) ≤ length terms
   error-needs {band} {terms} synopsis = synopsis-needs (keeps-from-error synopsis (greatestError profile rest terms) (omega arith))
 
-  pub best-synopsis : {band : ℕ} {terms : List Term} → KeepingSynopsis profile rest band terms → length terms ≡ fewestTerms profile rest band
+  best-synopsis : {band : ℕ} {terms : List Term} → KeepingSynopsis profile rest band terms → length terms ≡ fewestTerms profile rest band
       → (0 < greatestError profile rest terms → length terms < fewestTerms profile rest (greatestError profile rest terms - 1)) → Best profile rest band terms
   best-synopsis {band} {terms} synopsis as-few needs-more = record {
     synopsis = synopsis;

@@ -1,7 +1,7 @@
 -- The terms of a list, counted over the tree by look-up, are as many as the list is long: each term adds the marks of its node, which sum up to 1.
 use mathlib.Core.Path.{_≡_, refl, ap, _∙_, fun-ext}
 use mathlib.Core.Bool.{Bool, true, false, cond}
-use mathlib.Core.Option.{some}
+use mathlib.Core.Option.{none, some}
 use mathlib.Core.List.{List, [], _∷_}
 use Prim.Native.Nat.{ℕ, zero, suc, _+_, _≤_}
 use native.Mathlib.Omega.{arith}
@@ -45,12 +45,12 @@ module _ {Term : Type 0} (node value : Term → ℕ) (shape : Shape) (height top
       split false later = later
 
   -- up to `last` there is no term
-  none-before : (last : ℕ) (terms : List Term) (i : ℕ) → Listed node value shape height top last terms → i ≤ last → termCount (lookup node value terms i) ≡ 0
+  pub none-before : (last : ℕ) (terms : List Term) (i : ℕ) → Listed node value shape height top last terms → i ≤ last → lookup node value terms i ≡ none
   unfolding lookup Listed
   none-before last [] i listed before = refl
   none-before last (term ∷ terms) i listed before = split (eqb (node term) i) refl (none-before (node term) terms i (listed .3) (omega (arith, listed .0)))
     where
-      split : (test : Bool) → eqb (node term) i ≡ test → termCount (lookup node value terms i) ≡ 0 → termCount (cond test (some (value term)) (lookup node value terms i)) ≡ 0
+      split : (test : Bool) → eqb (node term) i ≡ test → lookup node value terms i ≡ none → cond test (some (value term)) (lookup node value terms i) ≡ none
       split true answer later = absurd (omega (arith, listed .0, eqb→eq (node term) i (rw answer tt)))
       split false answer later = later
 
@@ -62,7 +62,7 @@ module _ {Term : Type 0} (node value : Term → ℕ) (shape : Shape) (height top
     where
       split : (test : Bool) → eqb (node term) i ≡ test
           → termCount (cond test (some (value term)) (lookup node value terms i)) ≡ passed test + termCount (lookup node value terms i)
-      split true answer = omega (arith, none-before (node term) terms i (listed .3) (omega (arith, eqb→eq (node term) i (rw answer tt))))
+      split true answer = omega (arith, ap termCount (none-before (node term) terms i (listed .3) (omega (arith, eqb→eq (node term) i (rw answer tt)))))
       split false answer = omega arith
 
   -- the terms over the tree are as many as the list is long

@@ -11,3 +11,5 @@ pub mod Binary
 pub mod Rows
 pub mod Meeting
 pub mod Wider
+pub mod Tight
+pub mod Leading

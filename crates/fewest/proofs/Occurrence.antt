@@ -101,6 +101,11 @@ module _ (shape : Shape) where
   no-ancestor zero n none = none
   no-ancestor (suc levels) n none = no-ancestor levels (shape .par n) (ap (shape .par) none ∙ shape .par-of-none)
 
+  -- so what is under the root is a node
+  pub node-under-root : (levels n : ℕ) → ancestor shape levels n ≡ 1 → 1 ≤ n
+  node-under-root levels zero under = absurd (omega (arith, under, no-ancestor levels 0 refl))
+  node-under-root levels (suc n) under = omega arith
+
   -- the root is once on the path of a node under it
   root-once : (height levels n : ℕ) → levels ≤ height → ancestor shape levels n ≡ 1 → pathMarks height n 1 ≡ 1
   unfolding pathMarks ancestor

@@ -1,4 +1,4 @@
--- Sums over children: they grow with what is summed, add up, and are 0 or 1 where what is summed is. Each by induction on the number of children.
+-- Sums over children: they grow with what is summed, and are equal only where each part is; they add up, and are 0 or 1 where what is summed is. Each by induction on the number of children.
 use mathlib.Core.Path.{_≡_, refl, ap}
 use mathlib.Core.Logic.{_≢_}
 use Prim.Native.Nat.{ℕ, zero, suc, _+_, _≤_, _<_}
@@ -11,6 +11,18 @@ pub total-at-most : (count : ℕ) (g k : ℕ → ℕ) → ((c : ℕ) → c < cou
 unfolding total
 total-at-most zero g k each = omega arith
 total-at-most (suc count) g k each = omega (arith, total-at-most count g k (λ c below. each c (omega arith)), each count (omega arith))
+
+-- where no part is greater and yet the sum is no smaller, each part is equal
+pub total-tight : (count : ℕ) (g k : ℕ → ℕ) → ((c : ℕ) → c < count → g c ≤ k c) → total count k ≤ total count g → (c : ℕ) → c < count → k c ≤ g c
+unfolding total
+total-tight zero g k each no-smaller c below = absurd (omega arith)
+total-tight (suc count) g k each no-smaller c below =
+    split (ℕ-discrete c count) (total-at-most count g k (λ d earlier. each d (omega arith)))
+    (total-tight count g k (λ d earlier. each d (omega arith)) (omega (arith, each count (omega arith))) c)
+  where
+    split : Dec (c ≡ count) → total count g ≤ total count k → (c < count → k c ≤ g c) → k c ≤ g c
+    split (yes last) others earlier = rw last (omega arith)
+    split (no not-last) others earlier = earlier (omega arith)
 
 -- a sum of equal parts is equal
 pub total-same : (count : ℕ) (g k : ℕ → ℕ) → ((c : ℕ) → c < count → g c ≡ k c) → total count g ≡ total count k

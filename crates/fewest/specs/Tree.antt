@@ -3,7 +3,7 @@ use mathlib.Core.Path.{_≡_, refl}
 use Prim.Native.Nat.{ℕ, zero, suc, _+_, _*_, _/_, _%_, _≤_, _<_}
 use native.Mathlib.Omega.{arith}
 
--- how nodes are numbered: the root is 1, an inner node i has the children kid i 0 to kid i (arity - 1), and par n is the node above n
+-- how nodes are numbered: the root is 1, an inner node i has the children kid i 0 to kid i (arity - 1), and par n is the node above n, of a lower number
 pub record Shape : Type 0 where
   pub arity : ℕ
   pub kid : ℕ → ℕ → ℕ
@@ -17,6 +17,7 @@ pub record Shape : Type 0 where
   pub kid-of-par : (n : ℕ) → 1 ≤ par n → n ≡ kid (par n) (place n)
   pub par-of-none : par 0 ≡ 0
   pub par-of-root : par 1 ≡ 0
+  pub par-lower : (n : ℕ) → 1 ≤ n → par n < n
 
 -- two children each: node i is over nodes 2i and 2i+1
 unfoldable pub binary : Shape
@@ -32,6 +33,7 @@ binary = record {
   kid-of-par = λ n node. omega arith;
   par-of-none = refl;
   par-of-root = refl;
+  par-lower = λ n node. omega arith;
 }
 
 -- the sum of what a function gives for 0, 1 and on, `count` of them

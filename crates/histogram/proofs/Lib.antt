@@ -4,6 +4,7 @@ pub mod Counted
 pub mod Doubling
 pub mod Expected
 pub mod Handing
+pub mod Kept
 pub mod Lookup
 pub mod Order
 pub mod Paired

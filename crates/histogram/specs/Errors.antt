@@ -1,7 +1,10 @@
 -- Errors and the band: document 01, "The setpoint in a slot", as document 02's F-3 has it. For the auditor.
--- `proofs/Expected.antt` shows that a synopsis keeps a band exactly where its greatest error is within it: `keeps-greatest`, `greatest-keeps`.
+-- `proofs/Expected.antt` shows that a synopsis keeps a band exactly where its greatest error is within it: `keeps-greatest`, `greatest-keeps`;
+-- `proofs/Kept.antt` that `kept` says what `Keeps` says: `kept-keeps`, `keeps-kept`.
+use mathlib.Core.Bool.{Bool, true, _&&_}
 use mathlib.Core.List.{List}
 use Prim.Native.Nat.{ℕ, zero, suc, _≤_, _<_, max}
+use lib.Dec.{leb}
 use lib.IntN.{ℤ, pos, _-ℤ_, natAbs}
 use lib.ListN.{length, getD}
 use Rattle.histogram.specs.declared.Term.{Term}
@@ -35,3 +38,12 @@ greatestError profile rest terms = greatest (slotError profile rest terms) (slot
 -- "A synopsis keeps a band when every slot's error is within it"; "an error equal to the band is within it"
 pub record Keeps (profile : List ℤ) (rest : ℤ) (terms : List Term) (band : ℕ) : Type 0 where
   pub every-slot : (slot : ℕ) → slot < slotsOf profile → slotError profile rest terms slot ≤ bandAt band slot
+
+-- whether 0, 1 and on, `count` of them, all pass a test
+unfoldable pub every : (ℕ → Bool) → ℕ → Bool
+every test zero = true
+every test (suc count) = every test count && test count
+
+-- `Keeps` as a test: "kept"
+abbrev pub kept : List ℤ → ℤ → List Term → ℕ → Bool
+kept profile rest terms band = every (λ slot. leb (slotError profile rest terms slot) (bandAt band slot)) (slotsOf profile)

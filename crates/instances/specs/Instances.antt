@@ -1,4 +1,4 @@
--- Document 01's starred instances, those of document 02's F-2 with its fault after a point, and that of its F-3 with two more, as one table. For the auditor. `proofs/Hold.antt` proves that every one holds.
+-- Document 01's starred instances, those of document 02's F-2 with its fault after a point, that of its F-3 with two more, and two for its F-5, as one table. For the auditor. `proofs/Hold.antt` proves that every one holds.
 use mathlib.Core.Path.{_≡_}
 use mathlib.Core.List.{List, [], _∷_}
 use mathlib.Core.Option.{some}
@@ -10,7 +10,7 @@ use Rattle.decimal.specs.Number.{readsAs}
 use Rattle.decimal.specs.Answers.{isNone}
 use Rattle.histogram.specs.declared.Term.{Term}
 use Rattle.histogram.specs.Errors.{greatestError}
-use Rattle.claims.specs.Best.{Best}
+use Rattle.claims.specs.First.{firstSynopsis}
 use Rattle.claims.specs.LeastBand.{LeastBand}
 
 pub data Instance : Type 0 where
@@ -18,10 +18,10 @@ pub data Instance : Type 0 where
   gives : (field : List ℕ) (value : ℤ) → Instance
   -- a field and the number it is refused with
   refused : (field : List ℕ) (number : ℕ) → Instance
-  -- a profile, its rest value and a band, and the number of terms and the greatest error of a best synopsis
+  -- a profile, its rest value and a band, and the number of terms and the greatest error of the synopsis that building gives
   builds : (profile : List ℤ) (rest : ℤ) (band count error : ℕ) → Instance
-  -- a profile, its rest value and a band, and a best synopsis
-  hasBest : (profile : List ℤ) (rest : ℤ) (band : ℕ) (terms : List Term) → Instance
+  -- a profile, its rest value and a band, and that synopsis
+  hasFirst : (profile : List ℤ) (rest : ℤ) (band : ℕ) (terms : List Term) → Instance
   -- a profile, its rest value and a budget of terms, and the least band for it
   leastBand : (profile : List ℤ) (rest : ℤ) (budget band : ℕ) → Instance
 
@@ -30,19 +30,12 @@ pub record CountAndError (profile : List ℤ) (rest : ℤ) (count error : ℕ) (
   pub count-is : length terms ≡ count
   pub error-is : greatestError profile rest terms ≡ error
 
--- some best synopsis has that count and that error, and so has every best one
-pub record BestHave (profile : List ℤ) (rest : ℤ) (band count error : ℕ) : Type 0 where
-  pub terms : List Term
-  pub best : Best profile rest band terms
-  pub has : CountAndError profile rest count error terms
-  pub every : (other : List Term) → Best profile rest band other → CountAndError profile rest count error other
-
 -- what an instance says of the definitions
 abbrev pub Holds : Instance → Type 0
 Holds (gives field value) = readsAs field ≡ some value
 Holds (refused field number) = 1 when isNone (readsAs field) ≡ number
-Holds (builds profile rest band count error) = BestHave profile rest band count error
-Holds (hasBest profile rest band terms) = Best profile rest band terms
+Holds (builds profile rest band count error) = CountAndError profile rest count error (firstSynopsis profile rest band)
+Holds (hasFirst profile rest band terms) = firstSynopsis profile rest band ≡ terms
 Holds (leastBand profile rest budget band) = LeastBand profile rest budget band
 
 -- what every instance of a list says
@@ -65,6 +58,14 @@ lastHundred = pos 0 ∷ pos 0 ∷ pos 0 ∷ pos 0 ∷ pos 0 ∷ pos 100 ∷ []
 -- three slots of setpoint 100
 abbrev pub threeHundreds : List ℤ
 threeHundreds = pos 100 ∷ pos 100 ∷ pos 100 ∷ []
+
+-- four slots: -20, -10, 10 and 10
+abbrev pub fourRising : List ℤ
+fourRising = negsuc 19 ∷ negsuc 9 ∷ pos 10 ∷ pos 10 ∷ []
+
+-- four slots: 100, 116, 3 and 3
+abbrev pub fourFalling : List ℤ
+fourFalling = pos 100 ∷ pos 116 ∷ pos 3 ∷ pos 3 ∷ []
 
 -- the table: each row's instances under its words
 abbrev pub starred : List Instance
@@ -92,10 +93,15 @@ starred =
     ∷ leastBand hundreds (pos 0) 2 0
     -- F-3: "0, 0, 0, 0, 0, 100 with rest 0 and band 0 drops from two terms to one", which is the term (13, 100)
     ∷ builds lastHundred (pos 0) 0 1 0
-    ∷ hasBest lastHundred (pos 0) 0 (record { node = 13; value = pos 100 } ∷ [])
+    ∷ hasFirst lastHundred (pos 0) 0 (record { node = 13; value = pos 100 } ∷ [])
     -- with band 60 too one term, and error 0: slots 6 and 7 have none; with a setpoint of 100 in them it would be 50
     ∷ builds lastHundred (pos 0) 60 1 0
     -- filler accepts every value, and not the rest value alone: one term at the root serves three slots of 100
     ∷ builds threeHundreds (pos 0) 0 1 0
-    ∷ hasBest threeHundreds (pos 0) 0 (record { node = 1; value = pos 100 } ∷ [])
+    ∷ hasFirst threeHundreds (pos 0) 0 (record { node = 1; value = pos 100 } ∷ [])
+    -- F-5: slots 0 and 1 need -15, and slots 2 and 3 any value of 5 to 15. "Lower node first": a term at node 1 comes before one at node 2.
+    -- "Then lower value": there -15 comes before 5, and at node 3 the lowest of the eleven
+    ∷ hasFirst fourRising (pos 100) 5 (record { node = 1; value = negsuc 14 } ∷ record { node = 3; value = pos 5 } ∷ [])
+    -- slots 2 and 3 take any value of -5 to 11: -5 is the lowest, though 0 and 3 are smaller in size
+    ∷ hasFirst fourFalling (pos 1000) 8 (record { node = 1; value = negsuc 4 } ∷ record { node = 2; value = pos 108 } ∷ [])
     ∷ []

@@ -14,7 +14,7 @@ use Rattle.profile.specs.Text.{textRefusal, restOf, bandOf, setpointsOf}
 use Rattle.record.specs.Record.{slotsIn, bandIn, restIn, countIn, termsIn}
 use Rattle.record.specs.Answers.{recordRefusal}
 use Rattle.record.proofs.Bounds.{few-terms}
-use Rattle.record_check.proofs.Verdicts.{kept-keeps, keeps-kept}
+use Rattle.histogram.proofs.Kept.{kept-keeps, keeps-kept}
 use Rattle.offers.specs.declared.Candidate.{Candidate}
 use Rattle.offers.specs.declared.Offer.{Offer}
 use Rattle.offers.specs.declared.Offer.the-variants.{Nothing, One}

@@ -9,10 +9,9 @@ use lib.ListN.{length, take}
 use denote.Ref.{RefT, ptr, now}
 use Rattle.limits.specs.Answers.{granted}
 use Rattle.profile.specs.Text.{textRefusal, restOf, bandOf, setpointsOf}
-use Rattle.histogram.specs.Errors.{greatestError}
+use Rattle.histogram.specs.Errors.{greatestError, kept}
 use Rattle.record.specs.Record.{recordLength, slotsIn, bandIn, restIn, countIn, termsIn}
 use Rattle.record.specs.Answers.{recordRefusal}
-use Rattle.record_check.specs.Checking.{kept}
 use Rattle.offers.specs.declared.Candidate.{Candidate}
 use Rattle.offers.specs.declared.Offer.{Offer}
 use Rattle.offers.specs.declared.Offer.the-variants.{Nothing, One}

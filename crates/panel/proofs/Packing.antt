@@ -13,10 +13,10 @@ use Rattle.limits.proofs.Refusals.{first-counts}
 use Rattle.profile.specs.Text.{textRefusal, setpointsOf}
 use Rattle.bits.specs.Signed.{complement}
 use Rattle.histogram.specs.Restored.{restoredSlot}
-use Rattle.histogram.specs.Errors.{greatestError}
+use Rattle.histogram.specs.Errors.{greatestError, kept}
 use Rattle.record.specs.Record.{slotsIn, bandIn, restIn, termsIn}
 use Rattle.record_check.specs.declared.CheckAnswer.{CheckAnswer}
-use Rattle.record_check.specs.Checking.{checkRefusal, kept, lowestBeyond, SlotRead, Checked}
+use Rattle.record_check.specs.Checking.{checkRefusal, lowestBeyond, SlotRead, Checked}
 use Rattle.build.specs.declared.LeastBandAnswer.{LeastBandAnswer}
 use Rattle.build.specs.LeastBand.{LeastBandFound}
 use Rattle.panel.specs.Results.{packedFields, result, slotResult, againstTextResult, leastBandOfTextRefusal, LeastBandOfText}

@@ -1,5 +1,5 @@
--- The record of a profile's best synopsis: building is not refused, writing is refused with 6 alone, and the fields fit.
-use mathlib.Core.Path.{_≡_, refl, sym, _∙_}
+-- The record of a profile's first best synopsis: building is not refused, writing is refused with 6 alone, and the fields fit.
+use mathlib.Core.Path.{_≡_, refl, sym, subst, _∙_}
 use mathlib.Core.Bool.{Bool, true, false, not}
 use mathlib.Core.List.{List, [], _∷_}
 use Prim.Native.Nat.{ℕ, _≤_, _<_}
@@ -11,22 +11,23 @@ use borrow.Author.Tests.{le-ltb}
 use Rattle.limits.specs.Answers.{_when_, _then_, granted, laid}
 use Rattle.limits.specs.Limits.{beyond, outsideSlots, anyBeyond}
 use Rattle.limits.proofs.Refusals.{first-counts, granted-nothing, passed, slots-within}
-use Rattle.profile.specs.Text.{textRefusal, restOf, bandOf, setpointsOf}
+use Rattle.profile.specs.Text.{textRefusal, setpointsOf}
 use Rattle.histogram.specs.declared.Term.{Term}
 use Rattle.histogram.specs.Tree.{padded}
-use Rattle.histogram.specs.Terms.{paired, valid}
+use Rattle.histogram.specs.Terms.{paired, valid, Valid}
 use Rattle.histogram.specs.Errors.{greatestError}
 use Rattle.histogram.proofs.Powers.{padded-bound}
 use Rattle.record.specs.Record.{recordLength, recordBytes}
 use Rattle.record.specs.Answers.{writingRefusal}
 use Rattle.record_write.specs.declared.WriteAnswer.{WriteAnswer}
 use Rattle.record_write.specs.Writing.{RecordWritten}
-use Rattle.claims.specs.Best.{Best}
+use Rattle.claims.specs.First.{firstSynopsis}
 use Rattle.build.specs.declared.BuildAnswer.{BuildAnswer}
 use Rattle.build.specs.Building.{buildRefusal, Built, handedOver}
-use Rattle.panel.specs.Results.{packedFields, textToRecordRefusal, TextToRecord}
+use Rattle.panel.specs.Results.{packedFields, textRecord, textToRecordRefusal, TextToRecord}
 use Rattle.panel.specs.Inner.{RecordBuilt}
 use Rattle.build.specs.Inner.{RightProfile}
+use Rattle.build.proofs.Answers.{built-first}
 use Rattle.profile.proofs.Accepted.{Held}
 use Rattle.panel.proofs.Packing.{refused-result}
 
@@ -71,10 +72,10 @@ module _ {profile : List ℤ} {rest band : ℤ} (right : RightProfile profile re
       )
 
   -- writing its terms is refused with 6 alone
-  pub writing-refusal : {terms : List Term} → Best profile rest (natAbs band) terms → (places : ℕ)
+  pub writing-refusal : (terms : List Term) → Valid (length profile) terms → (places : ℕ)
       → writingRefusal (length profile) band rest terms places ≡ 6 when ltb places (recordLength (length terms))
-  writing-refusal {terms} best places =
-      rw (slots-right .0, rest-right, right .band-right, is-valid (valid (length profile) terms) (best .synopsis .valid))
+  writing-refusal terms is-right places =
+      rw (slots-right .0, rest-right, right .band-right, is-valid (valid (length profile) terms) is-right)
     where
       is-valid : (test : Bool) → T test → not test ≡ false
       is-valid true passes = refl
@@ -83,34 +84,38 @@ module _ {profile : List ℤ} {rest band : ℤ} (right : RightProfile profile re
     none-refused : answer .refusal ≡ 0
     none-refused = built .refusal-is ∙ building-right places numbers room scratch
 
-    pub is-best : Best profile rest (natAbs band) terms
-    is-best = built .best none-refused
+    terms-are : terms ≡ firstSynopsis profile rest (natAbs band)
+    terms-are = rw none-refused at (built .terms-are)
+
+    -- they are a valid list
+    terms-valid : Valid (length profile) terms
+    terms-valid = built-first built none-refused .best .synopsis .valid
 
     error-is : answer .error ≡ greatestError profile rest terms
     error-is = rw none-refused at (built .error-is)
 
     module _ {written : WriteAnswer} {before after : List ℕ} (record-written : RecordWritten (length profile) band rest terms written before after) (number : ℕ) where
       written-is : written .refusal ≡ 6 when ltb (length before) (recordLength (length terms))
-      written-is = record-written .refusal-is ∙ writing-refusal is-best (length before)
+      written-is = record-written .refusal-is ∙ writing-refusal terms terms-valid (length before)
 
       destination : after ≡ laid (granted (6 when ltb (length before) (recordLength (length terms))) (recordBytes (length profile) (natAbs band) rest terms) []) before
       destination = rw (written-is) at (record-written .destination-is)
 
-      pub record-refused : 0 < written .refusal → number ≡ packedFields (written .refusal) 0 0 0 → RecordBuilt profile rest band before after number
-      record-refused wrong number-is = record {
-        terms = terms;
-        best = is-best;
+      -- of the terms that were built, and so of the first best synopsis
+      abbrev Written : List Term → Type 0
+      Written list = RecordBuilt profile rest band list before after number
+
+      pub record-refused : 0 < written .refusal → number ≡ packedFields (written .refusal) 0 0 0 → Written (firstSynopsis profile rest (natAbs band))
+      record-refused wrong number-is = subst Written terms-are record {
         result-is = number-is ∙ rw (← written-is) (refused-result (written .refusal) _ _ _ wrong);
         destination-is = destination;
       }
 
-      pub record-built : written .refusal ≤ 0 → number ≡ packedFields 0 (written .count) (answer .count) (answer .error) → RecordBuilt profile rest band before after number
+      pub record-built : written .refusal ≤ 0 → number ≡ packedFields 0 (written .count) (answer .count) (answer .error) → Written (firstSynopsis profile rest (natAbs band))
       record-built right′ number-is =
           let none : written .refusal ≡ 0 = omega arith in
           let bytes-are : written .count ≡ recordLength (length terms) = rw none at (record-written .count-is) in
-          record {
-            terms = terms;
-            best = is-best;
+          subst Written terms-are record {
             result-is = number-is ∙ rw (← written-is, none, bytes-are, built .count-is, error-is);
             destination-is = destination;
           }
@@ -126,19 +131,15 @@ module _ {profile : List ℤ} {rest band : ℤ} (right : RightProfile profile re
 
 pub text-refused : (text before : List ℕ) (refusal number : ℕ) → refusal ≡ textRefusal text → 0 < refusal → number ≡ packedFields refusal 0 0 0 → TextToRecord text before before number
 text-refused text before refusal number is wrong number-is =
-    let counts : textToRecordRefusal text [] (length before) ≡ refusal = rw (← is) (first-counts refusal _ wrong) in
+    let counts : textToRecordRefusal text (length before) ≡ refusal = rw (← is) (first-counts refusal _ wrong) in
     record {
-      terms = [];
-      best = λ none. absurd (omega (arith, is));
       result-is = number-is ∙ rw counts (refused-result refusal _ _ _ wrong);
-      destination-is = sym (rw (counts, granted-nothing refusal (recordBytes (length (setpointsOf text)) (natAbs (bandOf text)) (restOf text) []) [] wrong));
+      destination-is = sym (rw (counts, granted-nothing refusal (textRecord text) [] wrong));
     }
 
 pub text-built : {text : List ℕ} {rest band : ℤ} {slots : ℕ} {room profile : List ℤ} {before after : List ℕ} {number : ℕ} → Held text rest band slots room
-    → profile ≡ setpointsOf text → RecordBuilt profile rest band before after number → TextToRecord text before after number
+    → profile ≡ setpointsOf text → RecordBuilt profile rest band (firstSynopsis profile rest (natAbs band)) before after number → TextToRecord text before after number
 text-built {text} {before = before} held profile-is built = record {
-  terms = built .terms;
-  best = λ right. rw (profile-is, held .rest-is, held .band-is) at (built .best);
-  result-is = rw (held .not-refused) (rw (profile-is, held .rest-is) at (built .result-is));
+  result-is = rw (held .not-refused) (rw (profile-is, held .rest-is, held .band-is) at (built .result-is));
   destination-is = rw (held .not-refused) (rw (profile-is, held .rest-is, held .band-is) at (built .destination-is));
 }

@@ -9,7 +9,6 @@ use Rattle.limits.specs.Answers.{_when_, granted, laid}
 use Rattle.histogram.specs.declared.Term.{Term}
 use Rattle.histogram.specs.Errors.{greatestError}
 use Rattle.record.specs.Record.{recordLength, recordBytes}
-use Rattle.claims.specs.Best.{Best}
 use Rattle.panel.specs.Results.{result}
 
 -- numbers that fit four fields
@@ -19,9 +18,7 @@ pub record Fields (refusal first second third : ℕ) : Type 0 where
   pub second-fits : second < 65536
   pub third-fits : third < 65536
 
--- the record of a best synopsis is written, or refused with 6
-pub record RecordBuilt (profile : List ℤ) (rest band : ℤ) (before after : List ℕ) (number : ℕ) : Type 0 where
-  pub terms : List Term
-  pub best : Best profile rest (natAbs band) terms
+-- the record of a profile's terms is written, or refused with 6
+pub record RecordBuilt (profile : List ℤ) (rest band : ℤ) (terms : List Term) (before after : List ℕ) (number : ℕ) : Type 0 where
   pub result-is : number ≡ result (6 when ltb (length before) (recordLength (length terms))) (recordLength (length terms)) (length terms) (greatestError profile rest terms)
   pub destination-is : after ≡ laid (granted (6 when ltb (length before) (recordLength (length terms))) (recordBytes (length profile) (natAbs band) rest terms) []) before

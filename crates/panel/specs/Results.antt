@@ -1,4 +1,4 @@
--- The calls from C: document 01, "Building, checking, least band", its last paragraph, and "What the panel turns away"; document 02, F-1. For the auditor.
+-- The calls from C: document 01, "Building, checking, least band", its last paragraph, and "What the panel turns away"; document 02, F-1 and F-5. For the auditor.
 -- A result packs four 16-bit fields, lowest first: the refusal's number, and three more that a refusal leaves 0.
 use mathlib.Core.Path.{_≡_}
 use mathlib.Core.Bool.{cond}
@@ -12,13 +12,13 @@ use Rattle.profile.specs.Text.{textRefusal, restOf, bandOf, setpointsOf}
 use Rattle.bits.specs.Signed.{complement}
 use Rattle.histogram.specs.declared.Term.{Term}
 use Rattle.histogram.specs.Restored.{restoredSlot}
-use Rattle.histogram.specs.Errors.{greatestError}
+use Rattle.histogram.specs.Errors.{greatestError, kept}
 use Rattle.record.specs.Record.{recordLength, recordBytes, slotsIn, bandIn, restIn, termsIn}
-use Rattle.record_check.specs.Checking.{recordSlotRefusal, checkRefusal, kept, lowestBeyond}
+use Rattle.record_check.specs.Checking.{recordSlotRefusal, checkRefusal, lowestBeyond}
 use Rattle.offers.specs.declared.Winner.{Winner}
 use Rattle.offers.specs.declared.Winner.the-variants.{Neither, First, Second}
 use Rattle.offers.specs.Offers.{winner}
-use Rattle.claims.specs.Best.{Best}
+use Rattle.claims.specs.First.{firstSynopsis}
 use Rattle.claims.specs.LeastBand.{LeastBand}
 
 -- four fields of 16 bits in one number, lowest first
@@ -29,18 +29,23 @@ packedFields refusal first second third = refusal + 65536 * (first + 65536 * (se
 abbrev pub result : ℕ → ℕ → ℕ → ℕ → ℕ
 result refusal first second third = packedFields refusal (granted refusal first 0) (granted refusal second 0) (granted refusal third 0)
 
--- "Text to record: text, then 6 if the destination is shorter than the record"
-abbrev pub textToRecordRefusal : List ℕ → List Term → ℕ → ℕ
-textToRecordRefusal text terms places = textRefusal text then 6 when ltb places (recordLength (length terms))
+-- the synopsis of a text's profile: the first best one for its rest value and band
+abbrev pub synopsisOf : List ℕ → List Term
+synopsisOf text = firstSynopsis (setpointsOf text) (restOf text) (natAbs (bandOf text))
 
--- text to record: bytes written, terms, greatest error, of the terms that the record holds
+-- its record
+abbrev pub textRecord : List ℕ → List ℕ
+textRecord text = recordBytes (length (setpointsOf text)) (natAbs (bandOf text)) (restOf text) (synopsisOf text)
+
+-- "Text to record: text, then 6 if the destination is shorter than the record"
+abbrev pub textToRecordRefusal : List ℕ → ℕ → ℕ
+textToRecordRefusal text places = textRefusal text then 6 when ltb places (recordLength (length (synopsisOf text)))
+
+-- text to record: bytes written, terms, greatest error; and the destination, with the record over its front
 pub record TextToRecord (text before after : List ℕ) (number : ℕ) : Type 0 where
-  pub terms : List Term
-  pub best : textRefusal text ≡ 0 → Best (setpointsOf text) (restOf text) (natAbs (bandOf text)) terms
   pub result-is : number
-      ≡ result (textToRecordRefusal text terms (length before)) (recordLength (length terms)) (length terms) (greatestError (setpointsOf text) (restOf text) terms)
-  pub destination-is : after
-      ≡ laid (granted (textToRecordRefusal text terms (length before)) (recordBytes (length (setpointsOf text)) (natAbs (bandOf text)) (restOf text) terms) []) before
+      ≡ result (textToRecordRefusal text (length before)) (recordLength (length (synopsisOf text))) (length (synopsisOf text)) (greatestError (setpointsOf text) (restOf text) (synopsisOf text))
+  pub destination-is : after ≡ laid (granted (textToRecordRefusal text (length before)) (textRecord text) []) before
 
 -- one slot of a record: the setpoint in two's complement, 0, 0
 abbrev pub slotResult : List ℕ → ℕ → ℕ

@@ -9,12 +9,14 @@ use record_check::check_record;
 use record_check::read_slot;
 use record_write::write_record;
 ghost use mathlib.Core.Path.{_≡_};
+ghost use lib.IntN.{natAbs};
 ghost use Rattle.limits.specs.Answers.{_when_};
+ghost use Rattle.claims.specs.First.{firstSynopsis};
 ghost use Rattle.panel.specs.Results.{packedFields, slotResult, againstTextResult, TextToRecord, LeastBandOfText, betterOfferResult};
 ghost use Rattle.panel.specs.Inner.{Fields, RecordBuilt};
 ghost use Rattle.build.specs.Inner.{RightProfile};
 
-// A profile text to the record of its best synopsis: bytes written, terms, greatest error.
+// A profile text to the record of its first best synopsis: bytes written, terms, greatest error.
 #[no_mangle]
 pub extern "C" fn panel_text_to_record(text: &[u8], destination: &mut [u8]) -> u64
     ensures { λ r. ⌜ TextToRecord (now (text .entry)) (now (destination .entry)) (now (destination .exit)) r ⌝ }
@@ -28,10 +30,10 @@ pub extern "C" fn panel_text_to_record(text: &[u8], destination: &mut [u8]) -> u
     build_record(&setpoints[..slots], numbers.rest, numbers.band, destination)
 }
 
-// The record of a profile's best synopsis.
+// The record of a profile's first best synopsis.
 fn build_record(setpoints: &[i16], rest: i32, band: i32, destination: &mut [u8]) -> u64
     requires { ⌜ RightProfile (now setpoints) rest band ⌝ }
-    ensures { λ r. ⌜ RecordBuilt (now (setpoints .entry)) rest band (now (destination .entry)) (now (destination .exit)) r ⌝ }
+    ensures { λ r. ⌜ RecordBuilt (now (setpoints .entry)) rest band (firstSynopsis (now (setpoints .entry)) rest (natAbs band)) (now (destination .entry)) (now (destination .exit)) r ⌝ }
 {
     let mut nodes = [0u16; 512];
     let mut values = [0i16; 512];

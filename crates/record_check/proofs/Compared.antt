@@ -11,8 +11,9 @@ use lib.ListN.{length}
 use borrow.Author.Count.{below-none, below-more}
 use borrow.Author.Tests.{le-leb, lt-leb, lt-ltb, le-ltb}
 use Rattle.histogram.specs.Errors.{greatest}
+use Rattle.histogram.proofs.Kept.{every-passes, one-fails}
 use Rattle.record_check.specs.Inner.{difference, Compared}
-use Rattle.record_check.proofs.Verdicts.{every-passes, one-fails, lowest-is}
+use Rattle.record_check.proofs.Verdicts.{lowest-is}
 
 module _ (profile restored : List ℤ) (band : ℕ) where
   pub record SoFar (largest slot : ℕ) : Type 0 where

@@ -14,12 +14,13 @@ use Rattle.histogram.specs.Tree.{padded}
 use Rattle.histogram.specs.Terms.{paired}
 use Rattle.histogram.specs.Restored.{restoredAt, restoredSlot, pathNodes}
 use Rattle.histogram.specs.Errors.{setpointOf, slotError}
+use Rattle.histogram.proofs.Kept.{every-same}
 use Rattle.histogram.proofs.Order.{below-or-not}
 use Rattle.histogram.proofs.Powers.{height-reaches}
 use Rattle.histogram.proofs.Within.{restored-within}
 use Rattle.record_check.specs.Checking.{Verdict}
 use Rattle.record_check.specs.Inner.{difference, Comparable, Compared, Judgeable}
-use Rattle.record_check.proofs.Verdicts.{every-same, lowest-same, greatest-same}
+use Rattle.record_check.proofs.Verdicts.{lowest-same, greatest-same}
 
 module _ (profile : List ℤ) (band : ℕ) (rest : ℤ) (nodes : List ℕ) (values : List ℤ) (asked : Judgeable profile band rest nodes values)
     (first : ℕ) (first-is : first ≡ padded (length profile)) (after : List ℤ) (room : 2 * first ≤ length after)

@@ -1,7 +1,6 @@
 -- One slot of a record, and the check of setpoints against a record: document 01, "Building, checking, least band". For the auditor.
--- `proofs/Verdicts.antt` shows that `kept` says what `Keeps` of the histogram says.
 use mathlib.Core.Path.{_≡_}
-use mathlib.Core.Bool.{Bool, true, false, not, cond, _&&_}
+use mathlib.Core.Bool.{Bool, false, not, cond}
 use mathlib.Core.List.{List}
 use Prim.Native.Nat.{ℕ, zero, suc, _<_}
 use lib.Dec.{leb, ltb, eqb}
@@ -11,7 +10,7 @@ use Rattle.limits.specs.Answers.{_when_, _then_, granted}
 use Rattle.limits.specs.Limits.{outsideSlots, anyBeyond}
 use Rattle.histogram.specs.declared.Term.{Term}
 use Rattle.histogram.specs.Restored.{restoredSlot}
-use Rattle.histogram.specs.Errors.{slotError, slotsOf, bandAt, greatestError}
+use Rattle.histogram.specs.Errors.{slotError, slotsOf, bandAt, greatestError, kept}
 use Rattle.record.specs.Record.{slotsIn, bandIn, restIn, termsIn}
 use Rattle.record.specs.Answers.{recordRefusal}
 use Rattle.record_check.specs.declared.CheckAnswer.{CheckAnswer}
@@ -30,19 +29,10 @@ abbrev pub checkRefusal : List ℤ → List ℕ → ℕ
 checkRefusal profile bytes =
     4 when outsideSlots (length profile) then recordRefusal bytes then 2 when anyBeyond profile then 9 when not (eqb (slotsIn bytes) (length profile))
 
--- whether 0, 1 and on, `count` of them, all pass a test
-unfoldable pub every : (ℕ → Bool) → ℕ → Bool
-every test zero = true
-every test (suc count) = every test count && test count
-
 -- the lowest of 0, 1 and on, `count` of them, that passes a test; `count` where none does
 unfoldable pub lowest : (ℕ → Bool) → ℕ → ℕ
 lowest test zero = 0
 lowest test (suc count) = cond (test 0) 0 (suc (lowest (λ k. test (suc k)) count))
-
--- "kept": every slot's error is within the band
-abbrev pub kept : List ℤ → ℤ → List Term → ℕ → Bool
-kept profile rest terms band = every (λ slot. leb (slotError profile rest terms slot) (bandAt band slot)) (slotsOf profile)
 
 -- "the lowest slot whose error exceeds the band"
 abbrev pub lowestBeyond : List ℤ → ℤ → List Term → ℕ → ℕ

@@ -9,9 +9,9 @@ use lib.ListN.{length, getD, take}
 use Rattle.limits.specs.Limits.{outsideBand, anyBeyond}
 use Rattle.histogram.specs.declared.Term.{Term}
 use Rattle.histogram.specs.Terms.{paired, valid}
-use Rattle.histogram.specs.Errors.{setpointOf, greatest}
+use Rattle.histogram.specs.Errors.{setpointOf, greatest, every}
 use Rattle.record_read.specs.declared.HeaderAnswer.{HeaderAnswer}
-use Rattle.record_check.specs.Checking.{every, lowest}
+use Rattle.record_check.specs.Checking.{lowest}
 
 -- the difference of a setpoint and what stands in its slot
 abbrev pub difference : List ℤ → List ℤ → ℕ → ℕ

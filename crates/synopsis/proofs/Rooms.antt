@@ -91,8 +91,7 @@ module _ (profile : List ℤ) (rest band : ℤ) (places limit : ℕ) (limit-is :
   built-in-room = record {
     built = rw same-terms record {
       refusal-is = built .refusal-is ∙ ap (λ (k : ℕ). buildRefusal profile rest band k (length scratch)) limit-is ∙ same-refusal profile rest band places (length scratch);
-      best = built .best;
-      none-refused = built .none-refused;
+      terms-are = built .terms-are;
       count-is = built .count-is;
       error-is = built .error-is;
     };

@@ -219,7 +219,7 @@ fn for_places(places: usize, header: HeaderAnswer) -> HeaderAnswer
     header
 }
 
-// Builds the synopsis with the fewest terms that keeps the band and, among those, the least greatest error.
+// Builds the synopsis with the fewest terms that keeps the band and, among those, the least greatest error; of several such, the first.
 pub fn build(
     setpoints: &[i16],
     rest: i32,

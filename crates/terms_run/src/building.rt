@@ -14,6 +14,7 @@ pub fn run() {
     bands();
     places();
     just_enough();
+    several();
     one_number_changed();
 }
 
@@ -88,6 +89,13 @@ fn just_enough() {
     let alternating = [0i16, 100, 0, 100];
     let mut scratch = [9i16; 12288];
     build(b"just enough", &alternating, 0, 49, 4, &mut scratch);
+}
+
+// Two slots take -15 and two any value of 5 to 15: several synopses of two terms keep the band as well, and the first comes out.
+fn several() {
+    let rising = [-20i16, -10, 10, 10];
+    let mut scratch = [9i16; 12288];
+    build(b"the first of several", &rising, 100, 5, 4, &mut scratch);
 }
 
 // The test of scratch sees one number that is another.

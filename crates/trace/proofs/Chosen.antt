@@ -5,8 +5,8 @@ use mathlib.Core.Option.{none, some}
 use mathlib.Core.List.{List, [], _∷_}
 use Prim.Native.Nat.{ℕ, zero, suc, _+_, _≤_}
 use native.Mathlib.Omega.{arith}
-use lib.Dec.{T}
 use lib.IntN.{ℤ}
+use lib.Ieee.Bits.{is-true}
 use lib.ListN.{length}
 use borrow.Author.Tests.{eq-eqb, ne-eqb}
 use Rattle.fewest.specs.Node.{placed}
@@ -26,9 +26,6 @@ handed-on-inside windows value inside = rw inside
 pub handed-on-outside : (windows : List Window) (value : ℕ) → covers windows value ≡ false → handedOn windows value ≡ lowest windows
 handed-on-outside windows value outside = rw outside
 
-passed : (test : Bool) → T test → test ≡ true
-passed true passes = refl
-
 module _ (windows : List Window) (sorted : Sorted 0 windows) (filled : 1 ≤ length windows) (value : ℕ) where
   -- the value handed on is at most 40,000
   pub handed-on-within : value ≤ 40000 → handedOn windows value ≤ 40000
@@ -43,7 +40,7 @@ module _ (windows : List Window) (sorted : Sorted 0 windows) (filled : 1 ≤ len
     where
       split : (some-windows : List Window) → Sorted 0 some-windows → 1 ≤ length some-windows → covers some-windows (lowest some-windows) ≡ true
       split [] of-these none-there = absurd (omega arith)
-      split (window ∷ others) of-these some-there = passed (covers (window ∷ others) (window .low)) (first-inside window others 0 of-these)
+      split (window ∷ others) of-these some-there = is-true (covers (window ∷ others) (window .low)) (first-inside window others 0 of-these)
 
   -- and in the set
   pub handed-on-in-set : covers windows (handedOn windows value) ≡ true

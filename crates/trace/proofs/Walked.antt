@@ -1,4 +1,4 @@
--- The terms of all levels are those that the theory's walk leaves: `upper-terms-walked`.
+-- The terms of all levels are those that the theory's walk leaves: `upper-terms-walked`, for a profile `profile-walked`.
 -- At each node the answer's set says what the walk chooses there; the levels below a node are gathered from left to right.
 use mathlib.Core.Path.{_≡_, refl, ap, sym, _∙_}
 use mathlib.Core.Bool.{Bool, true, false, cond, not}
@@ -25,10 +25,11 @@ use Rattle.claims.proofs.Lifted.{lifted-within}
 use Rattle.claims.proofs.Exists.{walkedTerms}
 use Rattle.windows.specs.Windows.{Window, covers, Sorted}
 use Rattle.windows.proofs.Sets.{first-within, first-inside, none-below}
-use Rattle.subtree.specs.Answer.{answer}
+use Rattle.subtree.specs.Answer.{slotWindows, answer}
 use Rattle.subtree.specs.Stretch.{Usable}
 use Rattle.subtree.proofs.Answers.{answer-sorted, answer-bounded, usable-take, usable-drop}
-use Rattle.subtree.proofs.Rows.{Below, below-left, below-right, answer-row}
+use Rattle.subtree.proofs.Slots.{windows-usable}
+use Rattle.subtree.proofs.Rows.{Below, below-left, below-right, answer-row, slots-below, profile-within}
 use Rattle.trace.specs.Trace.{choice, handedOn, levelTerms, upperTerms}
 use Rattle.trace.proofs.Chosen.{handed-on-within}
 
@@ -148,11 +149,15 @@ module _ {profile : List ℤ} {rest : ℤ} (in-range : InRange profile rest) (ba
       rw (levels-gathered within below count (omega arith), level-gathered count reached (omega arith), first, gathered-append, whole)
 
   -- all levels are all that the walk leaves
-  pub upper-terms-walked : {leaves : List Window} → Usable leaves → Below (accepts profile band) (height (length profile)) 1 leaves
+  upper-terms-walked : {leaves : List Window} → Usable leaves → Below (accepts profile band) (height (length profile)) 1 leaves
       → upperTerms (suc (height (length profile))) (height (length profile)) leaves (lifted rest) ≡ walkedTerms in-range band
   upper-terms-walked within below =
       levels-gathered within below (suc (height (length profile))) (omega arith)
       ∙ ap (λ (count : ℕ). gathered termAt 1 (count - 1)) (pow-succ' 2 (height (length profile)))
+
+  -- so for the windows of the profile's slots
+  pub profile-walked : upperTerms (suc (height (length profile))) (height (length profile)) (slotWindows band profile) (lifted rest) ≡ walkedTerms in-range band
+  profile-walked = upper-terms-walked (windows-usable band (profile-within in-range)) (slots-below profile band (profile-within in-range))
 
 -- fewer levels have no more terms
 module _ (height : ℕ) (leaves : List Window) (value : ℕ) where

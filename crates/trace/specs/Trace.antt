@@ -1,5 +1,5 @@
 -- The walk from the root down, level by level, and what inner functions ask and promise of it. A reader of the promises need not open this file.
--- `proofs/Walked.antt` shows that its terms are those of the theory of fewest terms: `upper-terms-walked`.
+-- `proofs/Walked.antt` shows that its terms are those of the theory of fewest terms: `profile-walked`.
 use mathlib.Core.Path.{_≡_}
 use mathlib.Core.Bool.{true, cond}
 use mathlib.Core.List.{List, [], _∷_, _++_}

@@ -1,4 +1,4 @@
-// Tracing: the walk that reads the solved scratch from the root down and writes the terms of a smallest synopsis.
+// Tracing: the walk that reads the solved scratch from the root down and writes the terms of the first of the smallest synopses.
 // A node hands on to its children the value that comes in where that is in the node's set, else the lowest value of the set, and then it has a term.
 use subtree::lower;
 use subtree::plan;

@@ -8,6 +8,7 @@ use lib.Dec.{T, leb, ltb, leb→le, le→leb}
 use lib.ListN.{length}
 use mir.Facts.{and-yes, yes-and}
 use borrow.Author.Tests.{ltb-true, ltb-false, leb-true, leb-false, le-leb}
+use Rattle.limits.proofs.Tests.{either-first, either-second}
 use Rattle.windows.specs.Windows.{Window, inside, covers, Sorted, between, meet, join}
 
 -- ---- tests
@@ -21,13 +22,6 @@ same-test false false there back = refl
 
 fails : (test : Bool) → (T test → ⊥) → test ≡ false
 fails test wrong = same-test test false wrong (λ never. absurd never)
-
-either-first : (one other : Bool) → T one → T (one || other)
-either-first true other passes = tt
-
-either-second : (one other : Bool) → T other → T (one || other)
-either-second true other passes = tt
-either-second false other passes = passes
 
 -- what follows from each of two tests follows from either
 from-either : (one other : Bool) {Holds : Type 0} → (T one → Holds) → (T other → Holds) → T (one || other) → Holds

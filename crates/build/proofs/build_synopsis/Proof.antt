@@ -31,16 +31,16 @@ returns c =
     let args = c .before .before .before .args in
     refused (args .setpoints .now) (args .rest) (args .band) (args .nodes .now) (args .values .now) (args .scratch .now) (c .before .refuse-build .result) (refusal-is (c .before)) (c .if1 .taken)
 
-cast-build-best : tie.Need-cast-build-best
-cast-build-best c =
+cast-build-first : tie.Need-cast-build-first
+cast-build-first c =
     let args = c .before .before .before .args in
     rw (toZ-ofZ (c .before .before .before .fits .band)) (
       band-from-zero (args .setpoints .now) (args .rest) (args .band) (length (args .nodes .now)) (length (args .scratch .now)) (not-refused c),
       record { fits = omega (arith, build-band-within (args .setpoints .now) (args .rest) (args .band) (length (args .nodes .now)) (length (args .scratch .now)) (not-refused c)) },
     )
 
-build-best-requires : tie.Need-build-best-requires
-build-best-requires c κs =
+build-first-requires : tie.Need-build-first-requires
+build-first-requires c κs =
     let start = c .before .before .before .before .before .before in
     let args = start .args in
     rw (toZ-ofZ (start .fits .rest), toZ-ofZ (start .fits .band))
@@ -59,7 +59,7 @@ returns-2 : tie.Need-returns-2
 returns-2 c =
     let start = c .before .before .before .before .before .before .before .before .before .before .before in
     let args = start .args in
-    let built = c .before .before .before .before .build-best in
+    let built = c .before .before .before .before .build-first in
     handed (args .setpoints .now) (args .rest) (args .band) (args .nodes .now) (args .values .now) (args .scratch .now) (not-refused (c .before .before .before .before .before .before .before .before)) (built .result)
     (built .last .1 .1 .1 .0) (built .last .1 .1 .1 .1 .0) (built .last .1 .1 .1 .1 .1 .0) (rw (toZ-ofZ (start .fits .rest), toZ-ofZ (start .fits .band)) at (built .ensures))
 
@@ -69,8 +69,8 @@ build-synopsis-spec =
     (tie.spec
     refuse-build-requires
     returns
-    cast-build-best
-    build-best-requires
+    cast-build-first
+    build-first-requires
     same-length
     same-length-2
     same-length-3

@@ -43,13 +43,17 @@ add-load-2 : tie.Need-add-load-2
 add-load-2 c = search needs
 
 load-requires-5 : tie.Need-load-requires-5
-load-requires-5 c κs = search needs
+load-requires-5 c κs =
+    let right = c .before .before .before .before .before .before .before .pre .right-answered in
+    omega (arith, right .room, right .not-empty)
 
 add-load-3 : tie.Need-add-load-3
 add-load-3 c = search needs
 
 load-requires-6 : tie.Need-load-requires-6
-load-requires-6 c κs = search needs
+load-requires-6 c κs =
+    let left = c .before .before .before .before .before .before .before .pre .left-answered in
+    omega (arith, left .room, left .not-empty)
 
 -- the children's sets do not meet
 apart : (c : tie.After-load4) → let args = c .before .before .before .before .before .args in at (args .scratch .now) (args .left) + at (args .scratch .now) (args .right) < at (args .scratch .now) 0

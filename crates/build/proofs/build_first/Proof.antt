@@ -1,9 +1,9 @@
--- `build::build_best` meets its contract.
+-- `build::build_first` meets its contract.
 use borrow.Author.Needs.{needs}
 use mir.Facts.{toZ-ofZ}
-use Rattle.build.proofs.Handed.{tree-fits, best-built}
-use Rattle.build.proofs.build_best.Statement.{statement}
-use Rattle.build.proofs.build_best.Tie as tie
+use Rattle.build.proofs.Handed.{tree-fits, first-built}
+use Rattle.build.proofs.build_first.Statement.{statement}
+use Rattle.build.proofs.build_first.Tie as tie
 
 height-over-requires : tie.Need-height-over-requires
 height-over-requires c κs = search needs
@@ -36,11 +36,11 @@ returns c =
     let args = start .args in
     let value = rw (toZ-ofZ (start .fits .rest)) at (c .before .before .before .before .before .before .before .before .before .lift .ensures .0) in
     let built = c .before .before .before .before .before .build-tree in
-    best-built (args .setpoints .now) (args .rest) (args .band) (args .nodes .now) (args .values .now) (args .scratch .now) (start .pre) (built .last .1 .1 .1 .0) (built .last .1 .1 .1 .1 .0) (built .result .count) (built .result .error)
+    first-built (args .setpoints .now) (args .rest) (args .band) (args .nodes .now) (args .values .now) (args .scratch .now) (start .pre) (built .last .1 .1 .1 .0) (built .last .1 .1 .1 .1 .0) (built .result .count) (built .result .error)
     (rw (c .before .before .before .before .before .before .before .before .before .before .height-over .ensures, value) at (built .ensures .0))
 
-pub build-best-spec : {M : Type 1} → statement M
-build-best-spec =
+pub build-first-spec : {M : Type 1} → statement M
+build-first-spec =
     tie.close
     (tie.spec
     height-over-requires
