@@ -1,7 +1,7 @@
 /* A first program on the burner panel's library: profile text to record, slots read back, the record
  * checked against its text, the least band for a few budgets, and the better of two offers.
  *
- *     main            the profile below, and a text that is refused
+ *     main            the profiles below, and a text that is refused
  *     main FILE       the profile text in a file
  */
 #include "panel.h"
@@ -10,6 +10,8 @@
 #include <string.h>
 
 static const char EMBEDDED[] = "14,00\n0,25\n14,10\n13,90\n20,00\n19,50\n";
+/* Three synopses of two terms restore it exactly: terms at nodes 1 and 3, 1 and 2, or 2 and 3. Every panel sends the first. */
+static const char SEVERAL[] = "0,50\n0,49\n0,00\n1,00\n";
 static const char FAULTY[] = "14,00\n0,25\n14,10\n13,\n";
 
 /* What the line has left in the control room's buffer: a record for the profile above, and bytes behind it. */
@@ -184,5 +186,6 @@ int main(int argc, char **argv)
     if (argc > 1)
         return fire_file(argv[1]);
     fire_embedded("faulty", FAULTY);
+    fire_embedded("several", SEVERAL);
     return fire_embedded("embedded", EMBEDDED);
 }

@@ -1,4 +1,4 @@
-/* Building a best synopsis, and the least band for a number of terms.
+/* Building the first of the best synopses, and the least band for a number of terms.
  *
  * Both go by sets of values, as sorted windows, from the slots up to the root: the values that can come in
  * from above without a term more. A node's set is what is in both of its children's sets; where they do not
@@ -132,7 +132,8 @@ static int least_band_within(const struct profile *profile, int budget, int top,
     return high;
 }
 
-/* Goes down the tree level by level: a term, of the least value of the node's set, where what comes in is not in the set. */
+/* Goes down the tree level by level: a term, of the least value of the node's set, where what comes in is not in the set.
+ * So of several smallest synopses the first is written, compared term by term: the lower node first, then the lower value. */
 static int write_terms(const struct profile *profile, const struct tree *tree, struct term *terms)
 {
     int16_t incoming[MOST_NODES];

@@ -62,7 +62,7 @@ size_t front_bytes(const uint8_t *buffer, size_t length);
 
 void write_record(const struct synopsis *synopsis, uint8_t *record);
 
-/* Builds a best synopsis; the answer is its greatest error. */
+/* Builds the first of the best synopses; the answer is its greatest error. */
 int build(const struct profile *profile, struct synopsis *synopsis);
 
 /* The least band for which `budget` terms are enough. */

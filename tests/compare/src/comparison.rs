@@ -2,10 +2,10 @@
 
 use crate::coverage::Coverage;
 use crate::document::calls::{Answer, Call, Document, packed};
-use crate::document::printed::{firing, refused, terms_named};
-use crate::document::record::{Record, byte_count, read_record};
-use crate::document::synopsis::{Verdict, check};
-use crate::document::text::{Profile, read_text};
+use crate::document::printed::{firing, refused};
+use crate::document::record::byte_count;
+use crate::document::synopsis::End;
+use crate::document::text::Profile;
 use crate::{library, program};
 use std::fmt::{Debug, Display};
 
@@ -59,41 +59,47 @@ impl Comparison {
 
     /// The answer, and the record where one was written as it should be.
     pub fn text_to_record(&mut self, text: &[u8], destination: usize) -> ([u16; 4], Option<Vec<u8>>) {
-        let call = Call::TextToRecord { text, destination };
-        let mut memory = marks(destination + 2 * MARGIN);
-        let word = library::text_to_record(text, &mut memory[MARGIN..MARGIN + destination]);
-        let (answer, parts) = self.answered(call, word);
-        let written = answer.map_or(0, |results| usize::from(results[0]));
-        let record = MARGIN..MARGIN + written;
-        let changed = |&place: &usize| !record.contains(&place) && memory[place] != mark(place);
-        let first_changed = (0..memory.len()).find(changed);
-        self.same("no byte changed but the record's, in the destination with its margins", &call, None, first_changed);
-        let (Ok(results), true) = (answer, word == packed(answer)) else {
-            return (parts, None);
-        };
-        self.built(call, text, &memory[record.clone()], results);
-        (parts, Some(memory[record].to_vec()))
+        self.text_to_record_over(text, destination, mark)
     }
 
-    /// What the program `fire` prints for a text, whole. Which best synopsis it prints stays open: its terms are taken
-    /// from its lines, and held to what is true of each.
+    /// The same, by what the destination and its margins hold before the call.
+    pub fn text_to_record_over(
+        &mut self,
+        text: &[u8],
+        destination: usize,
+        held: fn(usize) -> u8,
+    ) -> ([u16; 4], Option<Vec<u8>>) {
+        let call = Call::TextToRecord { text, destination };
+        let mut memory: Vec<u8> = (0..destination + 2 * MARGIN).map(held).collect();
+        let word = library::text_to_record(text, &mut memory[MARGIN..MARGIN + destination]);
+        let (answer, parts) = self.answered(call, word);
+        let expected = answer.and_then(|_| self.document.built(text)).map(|(record, _)| record.bytes()).ok();
+        let record = MARGIN..MARGIN + expected.as_ref().map_or(0, Vec::len);
+        let changed = |&place: &usize| !record.contains(&place) && memory[place] != held(place);
+        let first_changed = (0..memory.len()).find(changed);
+        self.same("no byte changed but the record's, in the destination with its margins", &call, None, first_changed);
+        if let Some(expected) = &expected {
+            self.same("the record", &call, expected.as_slice(), &memory[record.clone()]);
+        }
+        (parts, expected.filter(|expected| *expected == memory[record]))
+    }
+
+    /// What the program `fire` prints for a text, whole.
     pub fn fire(&mut self, text: &[u8]) -> String {
         let call = Call::TextToRecord { text, destination: byte_count(1_023) };
-        let printed = program::fire(text);
-        let answer = self.document.answer(call);
-        self.coverage.note_firing(answer);
-        let expected = match (answer, read_text(text)) {
-            (Ok(results), Ok(Profile { rest, band, setpoints })) => {
-                let record = Record { slots: setpoints.len(), band, rest, terms: terms_named(&printed) }.bytes();
-                self.built(call, text, &record, results);
-                let terms = read_record(&record).map_or(Vec::new(), |record| record.terms);
-                firing(&Profile { rest, band, setpoints }, &terms, i32::from(results[2]))
-            }
-            (Ok(_), Err(refusal)) | (Err(refusal), _) => refused(refusal),
-        };
-        let printed = String::from_utf8_lossy(&printed).into_owned();
+        let printed = String::from_utf8_lossy(&program::fire(text)).into_owned();
+        let built = self.document.built(text);
+        self.coverage.note_firing(built.as_ref().err().copied());
+        let expected = built.map_or_else(refused, |(record, greatest_error)| firing(&record, greatest_error));
         self.same("what fire prints", &call, expected, printed.clone());
         printed
+    }
+
+    /// Counts what F-3 and F-5 change in building a profile.
+    pub fn note_profile(&mut self, profile: &Profile) {
+        self.coverage.note_fewest(profile);
+        let [first, last] = [End::First, End::Last].map(|end| self.document.best(profile, end));
+        self.coverage.built.note(&first, &last);
     }
 
     /// Compares the library's answer to a call and counts the outcome.
@@ -103,29 +109,9 @@ impl Comparison {
         self.same("the answer", &call, parts(packed(answer)), parts(word));
         (answer, parts(word))
     }
-
-    /// What is true of every best synopsis' record; which of them it is stays open.
-    fn built(&mut self, call: Call, text: &[u8], bytes: &[u8], [_, terms, greatest_error]: [u16; 3]) {
-        let (profile, record) = match (read_text(text), read_record(bytes)) {
-            (Ok(profile), Ok(record)) => (profile, record),
-            (_, refused) => return self.same("the record is accepted", &call, None, refused.err()),
-        };
-        let header = (profile.setpoints.len(), profile.band, profile.rest, usize::from(terms));
-        self.same("the header", &call, header, (record.slots, record.band, record.rest, record.terms.len()));
-        let found = match check(&record.terms, record.rest, record.band, &profile.setpoints) {
-            Verdict::Kept(error) => Ok(error),
-            Verdict::NotKept(slot) => Err(slot),
-        };
-        self.same("the band kept, with the greatest error", &call, Ok(i32::from(greatest_error)), found);
-        self.same("the record is what its terms and header make", &call, record.bytes().as_slice(), bytes);
-    }
 }
 
 /// What a byte of lent memory holds before a call: nothing that is likely to be written there.
 fn mark(place: usize) -> u8 {
     (place * 37 % 251) as u8 | 1
-}
-
-fn marks(length: usize) -> Vec<u8> {
-    (0..length).map(mark).collect()
 }

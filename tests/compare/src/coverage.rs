@@ -1,12 +1,12 @@
 //! Which outcomes each call and the program `fire` have shown, counted by name; a run that misses one that the documents allow has failed.
-//! So has one without a profile whose fewest terms F-3 has changed.
+//! So has one without a profile whose fewest terms F-3 has changed, or without profiles that leave F-5 a choice.
 
 use crate::document::calls::{Answer, Call};
 use crate::document::offers::{ENDINGS, Ending, LACKS, Lack, better_offer, candidate};
 use crate::document::optimum::fewest_terms;
 use crate::document::record::read_record;
 use crate::document::refusal::{ALL, Calls, Refusal};
-use crate::document::synopsis::{Verdict, check, padded_length};
+use crate::document::synopsis::{Term, Verdict, check, padded_length};
 use crate::document::text::{Profile, read_text};
 use std::collections::HashMap;
 use std::fmt::Debug;
@@ -71,6 +71,41 @@ fn lengthened(setpoints: &[i32]) -> Vec<i32> {
     all
 }
 
+/// Profiles, counted by what F-5 chooses from: the first and the last of the best synopses are one, have terms at the
+/// same nodes, or at others.
+#[derive(Default)]
+pub struct Choices {
+    none: u64,
+    of_values: u64,
+    of_nodes: u64,
+}
+
+impl Choices {
+    pub fn note(&mut self, first: &[Term], last: &[Term]) {
+        let nodes = |terms: &[Term]| terms.iter().map(|term| term.node).collect::<Vec<usize>>();
+        if first == last {
+            self.none += 1;
+        } else if nodes(first) == nodes(last) {
+            self.of_values += 1;
+        } else {
+            self.of_nodes += 1;
+        }
+    }
+
+    fn print(&self, profiles: &str) {
+        let several = self.of_values + self.of_nodes;
+        println!(
+            "{profiles}: {}, of which with several best synopses: {several}, the last with terms at other nodes than the first: {}",
+            self.none + several,
+            self.of_nodes
+        );
+    }
+
+    fn complete(&self) -> bool {
+        self.none > 0 && self.of_values > 0 && self.of_nodes > 0
+    }
+}
+
 #[derive(Default)]
 pub struct Coverage {
     met: HashMap<Outcome, [u64; 5]>,
@@ -78,6 +113,10 @@ pub struct Coverage {
     lacks: HashMap<Lack, u64>,
     with_filler: u64,
     with_other_fewest: u64,
+    /// Profiles all of whose best synopses the second program has tried, a band each.
+    pub tried: Choices,
+    /// Profiles that the library has built.
+    pub built: Choices,
 }
 
 impl Coverage {
@@ -113,9 +152,9 @@ impl Coverage {
         self.with_other_fewest += u64::from(fewest(&lengthened) != fewest(&profile.setpoints));
     }
 
-    /// The outcome of a firing, by the answer that building the same text has.
-    pub fn note_firing(&mut self, answer: Answer) {
-        self.met.entry(answer.map_or_else(Outcome::Refused, |_| Outcome::Answered)).or_default()[FIRE] += 1;
+    /// The outcome of a firing.
+    pub fn note_firing(&mut self, refusal: Option<Refusal>) {
+        self.met.entry(refusal.map_or(Outcome::Answered, Outcome::Refused)).or_default()[FIRE] += 1;
     }
 
     fn counts(&self, outcome: Outcome) -> [u64; 5] {
@@ -139,9 +178,12 @@ impl Coverage {
             "profiles with filler: {}, of which with other fewest terms than with the last setpoint in filler: {}",
             self.with_filler, self.with_other_fewest
         );
+        self.tried.print("profiles of which every best synopsis was tried");
+        self.built.print("profiles built");
     }
 
-    /// Whether every call has shown every outcome that it can have, and some profile the difference that F-3 makes.
+    /// Whether every call has shown every outcome that it can have, and some profile the difference that F-3 makes and
+    /// each choice that F-5 has.
     pub fn complete(&self) -> bool {
         let all_met = |outcome: Outcome| {
             outcome.row().1.iter().zip(self.counts(outcome)).all(|(&allowed, count)| !allowed || count > 0)
@@ -150,6 +192,8 @@ impl Coverage {
             && ENDINGS.iter().all(|ending| self.endings.contains_key(ending))
             && LACKS.iter().all(|lack| self.lacks.contains_key(lack))
             && self.with_other_fewest > 0
+            && self.tried.complete()
+            && self.built.complete()
     }
 }
 

@@ -3,9 +3,9 @@
 use super::BUDGET_LIMIT;
 use super::offers::better_offer;
 use super::optimum::Optimum;
-use super::record::{byte_count, read_record};
+use super::record::{Record, byte_count, read_record};
 use super::refusal::Refusal;
-use super::synopsis::{Verdict, check, padded_length, restored};
+use super::synopsis::{End, Term, Verdict, check, greatest_error, padded_length, restored};
 use super::text::{Profile, read_text};
 use std::fmt;
 
@@ -29,10 +29,10 @@ pub fn packed(answer: Answer) -> u64 {
     [number, results[0], results[1], results[2]].into_iter().rev().fold(0, |word, part| word << 16 | u64::from(part))
 }
 
-/// Document 01's answers; what was worked out for the last profile is kept for the next call.
+/// The documents' answers; what was worked out for the last profile is kept for the next call.
 #[derive(Default)]
 pub struct Document {
-    last: Option<(Vec<i32>, i32, Optimum)>,
+    last: Option<Optimum>,
 }
 
 impl Document {
@@ -49,12 +49,23 @@ impl Document {
         }
     }
 
+    /// The record of the first of the best synopses for a text, and the greatest error.
+    pub fn built(&mut self, text: &[u8]) -> Result<(Record, i32), Refusal> {
+        let profile = read_text(text)?;
+        let terms = self.best(&profile, End::First);
+        let greatest_error = greatest_error(&terms, profile.rest, &profile.setpoints);
+        Ok((Record::of(&profile, terms), greatest_error))
+    }
+
+    /// The first or the last of the best synopses for a profile.
+    pub fn best(&mut self, profile: &Profile, end: End) -> Vec<Term> {
+        self.optimum(profile).best(profile.band, end)
+    }
+
     /// Bytes written, terms, greatest error.
     fn text_to_record(&mut self, text: &[u8], destination: usize) -> Answer {
-        let profile = read_text(text)?;
-        let optimum = self.optimum(&profile);
-        let terms = optimum.fewest(profile.band);
-        let greatest_error = optimum.least_band(terms);
+        let (record, greatest_error) = self.built(text)?;
+        let terms = record.terms.len();
         if destination < byte_count(terms) {
             return Err(Refusal::DestinationShort);
         }
@@ -71,11 +82,8 @@ impl Document {
     }
 
     fn optimum(&mut self, profile: &Profile) -> &mut Optimum {
-        let of_profile =
-            |(setpoints, rest, _): &(Vec<i32>, i32, Optimum)| *setpoints == profile.setpoints && *rest == profile.rest;
-        let last = self.last.take().filter(of_profile);
-        let work_out = || (profile.setpoints.clone(), profile.rest, Optimum::new(&profile.setpoints, profile.rest));
-        &mut self.last.insert(last.unwrap_or_else(work_out)).2
+        let last = self.last.take().filter(|last| last.is_of(profile));
+        self.last.insert(last.unwrap_or_else(|| Optimum::new(&profile.setpoints, profile.rest)))
     }
 }
 

@@ -10,6 +10,7 @@ pub mod printed;
 pub mod record;
 pub mod refusal;
 pub mod synopsis;
+pub mod table;
 pub mod text;
 
 /// The greatest setpoint, rest value and term value; the least is its negative.

@@ -2,6 +2,7 @@
 
 use super::refusal::Refusal;
 use super::synopsis::{Term, padded_length};
+use super::text::Profile;
 use super::{BAND_LIMIT, VALUE_LIMIT};
 
 /// Bits before the first term, and bits of a term.
@@ -35,6 +36,11 @@ pub fn byte_count(terms: usize) -> usize {
 }
 
 impl Record {
+    /// The record for a profile with some terms.
+    pub fn of(profile: &Profile, terms: Vec<Term>) -> Record {
+        Record { slots: profile.setpoints.len(), band: profile.band, rest: profile.rest, terms }
+    }
+
     pub fn fields(&self) -> Fields {
         Fields {
             version: 1,

@@ -1,11 +1,28 @@
-//! Document 01, "The setpoint in a slot", with document 02's F-3 and F-4: nodes, levels, terms, the restored setpoint and its
+//! Document 01, "The setpoint in a slot", with document 02's F-3, F-4 and F-5: nodes, levels, terms, the restored setpoint and its
 //! error; and the check's verdict. "From now on filler carries no setpoint": what looks at errors looks at slots below n alone.
 
-/// A node number and a value.
-#[derive(Clone, Copy, Debug, PartialEq)]
+/// A node number and a value. Lists of terms are ordered as F-5 has it: "compare term by term, lower node first, then
+/// lower value".
+#[derive(Clone, Copy, Debug, PartialEq, Eq, PartialOrd, Ord)]
 pub struct Term {
     pub node: usize,
     pub value: i32,
+}
+
+/// An end of the best synopses in that order.
+#[derive(Clone, Copy, PartialEq, Eq, Hash)]
+pub enum End {
+    First,
+    Last,
+}
+
+impl End {
+    pub fn of<T: Ord>(self, list: impl Iterator<Item = T>) -> Option<T> {
+        match self {
+            End::First => list.min(),
+            End::Last => list.max(),
+        }
+    }
 }
 
 /// m: the smallest power of two that is n or more. Slots n to m-1 are filler.

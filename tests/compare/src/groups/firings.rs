@@ -77,7 +77,7 @@ pub fn fire_with_all(comparison: &mut Comparison, setpoints: &[i32], rests: &[i3
 
 /// One firing in full.
 pub fn fire(comparison: &mut Comparison, profile: &Profile) {
-    comparison.coverage.note_fewest(profile);
+    comparison.note_profile(profile);
     let text = write_text(profile);
     let ([_, _, terms, greatest_error], record) = comparison.text_to_record(&text, byte_count(1_023));
     let Some(record) = record else {

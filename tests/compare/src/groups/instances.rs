@@ -3,7 +3,7 @@
 use crate::comparison::Comparison;
 use crate::document::record::{Fields, Record, byte_count};
 use crate::document::synopsis::Term;
-use crate::document::text::{Profile, write_text};
+use crate::document::text::{Profile, read_text, write_text};
 
 /// "One firing in full", and its record.
 pub const FIRING: &[u8] = b"14,00\n0,25\n14,10\n13,90\n20,00\n19,50\n";
@@ -34,9 +34,11 @@ fn refused(number: u16) -> [u16; 4] {
 }
 
 impl Instances<'_> {
-    fn builds(&mut self, name: &str, text: &[u8], gives: [u16; 4]) -> Option<Vec<u8>> {
+    fn builds(&mut self, name: &str, text: &[u8], gives: [u16; 4], terms: &[Term]) -> Option<Vec<u8>> {
         let (answer, record) = self.0.text_to_record(text, byte_count(1_023));
         self.0.same("an instance of the documents", &name, gives, answer);
+        let expected = read_text(text).map(|profile| Record::of(&profile, terms.to_vec()).bytes()).ok();
+        self.0.same("the record of an instance", &name, &expected, &record);
         record
     }
 
@@ -61,7 +63,8 @@ impl Instances<'_> {
         let text = format!("-199,99\n0\n{field}\n");
         match gives {
             Ok(value) => {
-                let record = self.builds(&name, text.as_bytes(), [0, 11, 1, 0]).unwrap_or_default();
+                let terms = [term(1, value.into())];
+                let record = self.builds(&name, text.as_bytes(), [0, 11, 1, 0], &terms).unwrap_or_default();
                 self.restores(&name, &record, 0, [0, value as u16, 0, 0]);
             }
             Err(number) => self.refuses(&name, text.as_bytes(), number),
@@ -70,10 +73,15 @@ impl Instances<'_> {
 
     /// A text that every call on text turns away.
     fn refuses(&mut self, name: &str, text: &[u8], number: u16) {
-        self.builds(name, text, refused(number));
+        let answer = self.0.text_to_record(text, byte_count(1_023)).0;
+        self.0.same("an instance of the documents", &name, refused(number), answer);
         self.least_band(name, text, 0, refused(number));
         self.checks(name, &FIRING_RECORD, text, refused(number));
     }
+}
+
+pub fn term(node: usize, value: i32) -> Term {
+    Term { node, value }
 }
 
 fn profile_text(setpoints: &[i32], rest: i32, band: i32) -> Vec<u8> {
@@ -81,7 +89,7 @@ fn profile_text(setpoints: &[i32], rest: i32, band: i32) -> Vec<u8> {
 }
 
 fn one_firing(instances: &mut Instances) {
-    let record = instances.builds("one firing in full", FIRING, [0, 11, 1, 25]);
+    let record = instances.builds("one firing in full", FIRING, [0, 11, 1, 25], &[term(3, 1975)]);
     instances.0.same("the firing's record", &"one firing in full", Some(FIRING_RECORD.to_vec()), record);
     for (slot, setpoint) in [1400, 1400, 1975, 1975].into_iter().enumerate() {
         instances.restores("a slot of the firing", &FIRING_RECORD, slot as u64, [0, setpoint, 0, 0]);
@@ -131,7 +139,7 @@ fn thousandths(instances: &mut Instances) {
     }
     for (band, header) in [("400,004", 40_000), ("399,995", 40_000), ("0,005", 1), ("0,004", 0), ("-0,004", 0)] {
         let name = format!("`{band}` as a band");
-        let record = instances.builds(&name, format!("0\n{band}\n0\n").as_bytes(), [0, 7, 0, 0]);
+        let record = instances.builds(&name, format!("0\n{band}\n0\n").as_bytes(), [0, 7, 0, 0], &[]);
         let expected = Record { slots: 1, band: header, rest: 0, terms: Vec::new() }.bytes();
         instances.0.same("the record of a band in thousandths", &name, Some(expected), record);
     }
@@ -143,16 +151,17 @@ fn thousandths(instances: &mut Instances) {
 fn lengths_of_texts(instances: &mut Instances) {
     instances.refuses("a text of no bytes", b"", 4);
     instances.refuses("a text of two good lines", b"14,00\n0,25\n", 4);
-    instances.builds("512 slots", &profile_text(&[5; 512], 0, 5), [0, 7, 0, 5]);
+    instances.builds("512 slots", &profile_text(&[5; 512], 0, 5), [0, 7, 0, 5], &[]);
     instances.refuses("513 slots", &profile_text(&[5; 513], 0, 5), 4);
 }
 
 fn small_profiles(instances: &mut Instances) {
-    instances.builds("one slot 5, rest 0, band 5", &profile_text(&[5], 0, 5), [0, 7, 0, 5]);
-    instances.builds("one slot 5, rest 0, band 4", &profile_text(&[5], 0, 4), [0, 11, 1, 0]);
+    instances.builds("one slot 5, rest 0, band 5", &profile_text(&[5], 0, 5), [0, 7, 0, 5], &[]);
+    instances.builds("one slot 5, rest 0, band 4", &profile_text(&[5], 0, 4), [0, 11, 1, 0], &[term(1, 5)]);
     let four = |band| profile_text(&[0, 100, 0, 100], 0, band);
-    instances.builds("0, 100, 0, 100, rest 0, band 50", &four(50), [0, 11, 1, 50]);
-    instances.builds("0, 100, 0, 100, rest 0, band 49", &four(49), [0, 14, 2, 0]);
+    instances.builds("0, 100, 0, 100, rest 0, band 50", &four(50), [0, 11, 1, 50], &[term(1, 50)]);
+    let two = [term(5, 100), term(7, 100)];
+    instances.builds("0, 100, 0, 100, rest 0, band 49", &four(49), [0, 14, 2, 0], &two);
     for (budget, band) in [(0, 100), (1, 50), (2, 0)] {
         instances.least_band("0, 100, 0, 100, rest 0, a budget", &four(0), budget, [0, band, 0, 0]);
     }
@@ -160,12 +169,13 @@ fn small_profiles(instances: &mut Instances) {
 
 fn wrong_turnings(instances: &mut Instances) {
     let four = |rest| profile_text(&[0, 100, 0, 100], rest, 0);
-    instances.builds("both 0 and 100 fit below the root, rest 100", &four(100), [0, 14, 2, 0]);
-    instances.builds("nothing between 0 and 100 fits, rest 50", &four(50), [0, 17, 3, 0]);
-    instances.builds("0 and 1 under one term", &profile_text(&[0, 1], 500, 1), [0, 11, 1, 1]);
-    instances.builds("no root term where the rest value serves", &profile_text(&[7; 8], 7, 0), [0, 7, 0, 0]);
-    let terms = vec![Term { node: 1, value: 100 }, Term { node: 2, value: 0 }];
-    let record = Record { slots: 2, band: 0, rest: 50, terms }.bytes();
+    let two = [term(4, 0), term(6, 0)];
+    instances.builds("both 0 and 100 fit below the root, rest 100", &four(100), [0, 14, 2, 0], &two);
+    let three = [term(1, 0), term(5, 100), term(7, 100)];
+    instances.builds("nothing between 0 and 100 fits, rest 50", &four(50), [0, 17, 3, 0], &three);
+    instances.builds("0 and 1 under one term", &profile_text(&[0, 1], 500, 1), [0, 11, 1, 1], &[term(1, 0)]);
+    instances.builds("no root term where the rest value serves", &profile_text(&[7; 8], 7, 0), [0, 7, 0, 0], &[]);
+    let record = Record { slots: 2, band: 0, rest: 50, terms: vec![term(1, 100), term(2, 0)] }.bytes();
     instances.restores("a term of value 0 under another, its slot", &record, 0, [0, 0, 0, 0]);
     instances.restores("a term of value 0 under another, the other slot", &record, 1, [0, 100, 0, 0]);
 }
@@ -173,7 +183,7 @@ fn wrong_turnings(instances: &mut Instances) {
 /// 7 bytes for no term, 11 for one, 3,332 for 1,023.
 fn lengths_of_records(instances: &mut Instances) {
     for (last_node, length) in [(0, 7), (1, 11), (1_023, 3_332)] {
-        let terms = (1..=last_node).map(|node| Term { node, value: 5 }).collect();
+        let terms = (1..=last_node).map(|node| term(node, 5)).collect();
         let mut bytes = Record { slots: 512, band: 0, rest: 5, terms }.bytes();
         instances.0.same("the length of a record", &last_node, length, bytes.len());
         instances.restores("a record of this length", &bytes, 511, [0, 5, 0, 0]);
@@ -186,7 +196,7 @@ fn lengths_of_records(instances: &mut Instances) {
 /// "The profile 0, 0, 0, 0, 0, 100 with rest 0 and band 0 drops from two terms to one." Its slots 6 and 7 are filler, below node 7.
 fn slots_past_the_end(instances: &mut Instances) {
     let name = "0, 0, 0, 0, 0, 100, rest 0, band 0";
-    let record = instances.builds(name, PAST_THE_END, [0, 11, 1, 0]);
+    let record = instances.builds(name, PAST_THE_END, [0, 11, 1, 0], &[term(13, 100)]);
     instances.0.same("the record of F-3's profile", &name, Some(PAST_THE_END_RECORD.to_vec()), record);
     for (budget, band) in [(0, 100), (1, 0)] {
         instances.least_band("F-3's profile, a budget", PAST_THE_END, budget, [0, band, 0, 0]);
@@ -200,15 +210,13 @@ fn slots_past_the_end(instances: &mut Instances) {
     instances.checks("F-3's profile, slot 5 outside it too", &slot_5_too, PAST_THE_END, [0, 0, 0, 5]);
     instances.restores("the last slot before filler", &far, 5, [0, 100, 0, 0]);
     instances.restores("the first filler slot", &far, 6, refused(10));
-    let filler_term = vec![Term { node: 7, value: 100 }];
-    let record = Record { slots: 3, band: 0, rest: 0, terms: filler_term }.bytes();
+    let record = Record { slots: 3, band: 0, rest: 0, terms: vec![term(7, 100)] }.bytes();
     instances.checks("a filler slot outside the band, the last one's neighbour", &record, b"0\n0\n0\n0\n0\n", kept);
 }
 
 /// A record of two terms for F-3's profile: one over filler alone, at node 7, and slot 5's own.
 pub fn with_filler_term(band: i32, (filler, slot_5): (i32, i32)) -> Vec<u8> {
-    let terms = vec![Term { node: 7, value: filler }, Term { node: 13, value: slot_5 }];
-    Record { slots: 6, band, rest: 0, terms }.bytes()
+    Record { slots: 6, band, rest: 0, terms: vec![term(7, filler), term(13, slot_5)] }.bytes()
 }
 
 /// Places that are open or easily misread, as docs/DECISIONS.md reads them.
@@ -223,8 +231,8 @@ fn readings(instances: &mut Instances) {
     instances.refuses("a last line out of range that is not ended", b"0\n0\n999", 1);
     instances.refuses("a rest value out of range, and nothing more", b"999,01\n", 2);
     instances.refuses("a band out of range, and nothing more", b"0\n400,01\n", 3);
-    instances.builds("`-0` as a band", b"0\n-0\n0\n", [0, 7, 0, 0]);
-    instances.builds("`-0,00` as a band", b"0\n-0,00\n0\n", [0, 7, 0, 0]);
+    instances.builds("`-0` as a band", b"0\n-0\n0\n", [0, 7, 0, 0], &[]);
+    instances.builds("`-0,00` as a band", b"0\n-0,00\n0\n", [0, 7, 0, 0], &[]);
     let two_terms = Fields { version: 1, length: 0, band: 0, rest: 0, count: 2, terms: vec![(1, 0), (1, 0)], fill: 0 };
     let record = two_terms.bytes();
     instances.restores("a count above 2m-1 that fits the bytes", &record, 0, refused(8));

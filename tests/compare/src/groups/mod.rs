@@ -3,6 +3,7 @@
 mod budgets;
 mod filler;
 mod firings;
+mod first;
 mod instances;
 mod levels;
 mod numbers;
@@ -16,7 +17,7 @@ use crate::comparison::Comparison;
 
 pub type Group = fn(&mut Comparison);
 
-pub const ALL: [(&str, Group); 11] = [
+pub const ALL: [(&str, Group); 12] = [
     ("the second program against itself", self_check::run),
     ("the documents' instances", instances::run),
     ("levels of all numbers of 16 bits", levels::run),
@@ -24,6 +25,7 @@ pub const ALL: [(&str, Group); 11] = [
     ("texts, good and damaged", texts::run),
     ("firings: built, restored, checked", firings::run),
     ("slots past the end", filler::run),
+    ("the first, where several are smallest", first::run),
     ("budgets", budgets::run),
     ("records, good and damaged", records::run),
     ("the better of two offers", offers::run),

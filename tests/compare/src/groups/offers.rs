@@ -1,7 +1,7 @@
 //! Two offers for one text: one, two or no candidates, equal ones, bytes behind them, short buffers, counts that point past the
 //! end, records that read and are for another profile, and texts that are refused.
 
-use super::instances::{FIRING, FIRING_RECORD, with_filler_term};
+use super::instances::{FIRING, FIRING_RECORD, term, with_filler_term};
 use crate::comparison::Comparison;
 use crate::document::VALUE_LIMIT;
 use crate::document::record::{Record, byte_count};
@@ -42,8 +42,7 @@ fn chosen(comparison: &mut Comparison, text: &[u8], cases: &[Case]) {
 }
 
 fn by_name(comparison: &mut Comparison) {
-    let terms = vec![Term { node: 2, value: 1400 }, Term { node: 3, value: 1975 }];
-    let two_terms = Record { slots: 4, band: 25, rest: 1400, terms }.bytes();
+    let two_terms = Record { slots: 4, band: 25, rest: 1400, terms: vec![term(2, 1400), term(3, 1975)] }.bytes();
     let behind = [FIRING_RECORD.as_slice(), &[0x10, 0xFF, 0x00]].concat();
     let cases: [Case; 8] = [
         ("fewer terms, in the first buffer", &FIRING_RECORD, &two_terms, [0, 1, 11, 0]),
@@ -73,7 +72,7 @@ fn by_name(comparison: &mut Comparison) {
 
 /// Offers with a term over filler alone for F-3's profile, here with band 5: the term counts, and what filler restores does not.
 fn over_filler(comparison: &mut Comparison) {
-    let one_term = Record { slots: 6, band: 5, rest: 0, terms: vec![Term { node: 13, value: 105 }] }.bytes();
+    let one_term = Record { slots: 6, band: 5, rest: 0, terms: vec![term(13, 105)] }.bytes();
     let values = [(-20_000, 100), (100, 100), (100, 104), (100, 106)];
     let [far, near, inexact, not_kept] = values.map(|values| with_filler_term(5, values));
     let cases: [Case; 6] = [
@@ -141,11 +140,9 @@ fn buffers(comparison: &mut Comparison, random: &mut Random, profile: &Profile, 
 
 /// A term on the leaf of every slot below n, so far from its setpoint, where the limits have such a value.
 fn with_leaves(profile: &Profile, error: i32) -> Record {
-    let slots = profile.setpoints.len();
-    let term =
-        |(slot, &setpoint): (usize, &i32)| Term { node: padded_length(slots) + slot, value: away(setpoint, error) };
-    let terms = profile.setpoints.iter().enumerate().map(term).collect();
-    Record { slots, band: profile.band, rest: profile.rest, terms }
+    let first_leaf = padded_length(profile.setpoints.len());
+    let term = |(slot, &setpoint): (usize, &i32)| Term { node: first_leaf + slot, value: away(setpoint, error) };
+    Record::of(profile, profile.setpoints.iter().enumerate().map(term).collect())
 }
 
 /// The rest value at the root: one term more, except where the root is the only leaf.

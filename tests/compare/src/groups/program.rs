@@ -1,5 +1,6 @@
 //! The program `fire` on texts of every kind: refused by each number, and printed in full where they are not.
 
+use super::first::{FROM_BELOW_ZERO, FROM_BELOW_ZERO_PRINTED};
 use super::instances::{FIRING, PAST_THE_END};
 use crate::comparison::Comparison;
 use crate::document::SLOT_LIMIT;
@@ -11,7 +12,7 @@ use crate::inputs::typed::{NO_NUMBERS, OUT_OF_RANGE, any_text, lines, text};
 /// What document 01 has `fire` print for its own text, to the letter.
 const FIRING_PRINTED: &str = "4 1 0,25 0,25\nterm 3 19,75\nslot 0 14,00\nslot 1 14,00\nslot 2 19,75\nslot 3 19,75\n";
 
-/// What `fire` prints for F-3's profile: it has one best synopsis.
+/// What `fire` prints for F-3's profile.
 const PAST_THE_END_PRINTED: &str =
     "6 1 0,00 0,00\nterm 13 1,00\nslot 0 0,00\nslot 1 0,00\nslot 2 0,00\nslot 3 0,00\nslot 4 0,00\nslot 5 1,00\n";
 
@@ -22,10 +23,14 @@ fn longest() -> Vec<u8> {
 
 pub fn run(comparison: &mut Comparison) {
     let mut random = Random::new(6);
-    let printed = comparison.fire(FIRING);
-    comparison.same("what fire prints for document 01's text", &"one firing in full", FIRING_PRINTED.into(), printed);
-    let printed = comparison.fire(PAST_THE_END);
-    comparison.same("what fire prints for F-3's profile", &"slots past the end", PAST_THE_END_PRINTED.into(), printed);
+    for (name, text, expected) in [
+        ("one firing in full", FIRING, FIRING_PRINTED),
+        ("slots past the end", PAST_THE_END, PAST_THE_END_PRINTED),
+        ("the first, where several are smallest", FROM_BELOW_ZERO, FROM_BELOW_ZERO_PRINTED),
+    ] {
+        let printed = comparison.fire(text);
+        comparison.same("what fire prints, to the letter", &name, expected.to_string(), printed);
+    }
     one_slot(comparison);
     faults(comparison, &mut random);
     long_texts(comparison);
