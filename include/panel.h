@@ -70,7 +70,9 @@ enum panel_refusal {
 };
 
 /* Builds the synopsis of a profile text with the fewest terms that keeps the text's band and, among
- * those, the least greatest error, and writes its record.
+ * those, the least greatest error, and writes its record. Of several such synopses it is the first: they are compared
+ * term by term, the lower node first, then the lower value. So the bytes written follow from the text alone, and two
+ * panels that are fed one profile write identical records.
  * Bytes of `record` past the record hold what they held.
  * Gives panel_bytes_written, panel_terms, panel_greatest_error.
  * Refuses with 1, 2, 3 and 4, by lines from the first; then 6. */
