@@ -34,7 +34,7 @@ module _ {A B : Type 0} (f : A → List B) where
       (λ later. let found = of-flat-map others later in (found .0, List·Memᴰ·tail (found .1), found .2))
       (List·Memᴰ·append-cases (f first) among)
 
--- so many values from -20,000 up have each value that is lifted to a lower number
+-- the lowest values, `count` of them, have each value that is lifted to a number below `count`
 values-have : (count : ℕ) (value : ℤ) → natAbs value ≤ 20000 → lifted value < count → List·Memᴰ value (lowestValues count)
 unfolding lowestValues
 values-have zero value within below = absurd (omega arith)
@@ -44,7 +44,7 @@ values-have (suc count) value within below =
     (λ from. let same : lifted value ≡ count = omega arith in List·Memᴰ·head (sym (lowered-lifted value within) ∙ ap lowered same))
     (below-or-not (lifted value) count)
 
--- and up to 40,001 of them are within ±20,000
+-- and where they are no more than 40,001, all are within ±20,000
 values-within : (count : ℕ) → count ≤ 40001 → {value : ℤ} → List·Memᴰ value (lowestValues count) → natAbs value ≤ 20000
 unfolding lowestValues
 values-within zero few among = absurd (List·Memᴰ·not-nil among)

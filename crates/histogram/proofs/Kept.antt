@@ -24,7 +24,7 @@ one-fails test (suc count) k below fails = go (ℕ-discrete k count) (one-fails 
     go (yes same) earlier = rw (← same, fails) (and-false (every test k))
     go (no other) earlier = rw (earlier (omega arith) fails)
 
-pub each-passes : (test : ℕ → Bool) (count : ℕ) → every test count ≡ true → (k : ℕ) → k < count → test k ≡ true
+each-passes : (test : ℕ → Bool) (count : ℕ) → every test count ≡ true → (k : ℕ) → k < count → test k ≡ true
 each-passes test count all k below = by-value (test k) refl
   where
     by-value : (value : Bool) → test k ≡ value → test k ≡ true

@@ -9,31 +9,7 @@ use Rattle.windows.specs.Windows.{covers, meet, join}
 use Rattle.subtree.specs.Answer.{answer}
 use Rattle.trace.specs.Trace.{levelTerms, upperTerms}
 use Rattle.instances.specs.Instances.{AllHold, starred, five, hundreds, lastHundred, threeHundreds, fourRising, fourFalling}
-use Rattle.instances.proofs.Rows.{Near, row-builds, row-first, row-least-band}
-
-five-near : Near five (pos 0)
-unfolding anyBeyond
-five-near = record { none-beyond = tt; rest-within = omega arith }
-
-hundreds-near : Near hundreds (pos 0)
-unfolding anyBeyond
-hundreds-near = record { none-beyond = tt; rest-within = omega arith }
-
-last-hundred-near : Near lastHundred (pos 0)
-unfolding anyBeyond
-last-hundred-near = record { none-beyond = tt; rest-within = omega arith }
-
-three-hundreds-near : Near threeHundreds (pos 0)
-unfolding anyBeyond
-three-hundreds-near = record { none-beyond = tt; rest-within = omega arith }
-
-four-rising-near : Near fourRising (pos 100)
-unfolding anyBeyond
-four-rising-near = record { none-beyond = tt; rest-within = omega arith }
-
-four-falling-near : Near fourFalling (pos 1000)
-unfolding anyBeyond
-four-falling-near = record { none-beyond = tt; rest-within = omega arith }
+use Rattle.instances.proofs.Rows.{row-builds, row-first, row-least-band}
 
 -- a row and the rows after it
 _and_ : {A B : Type 0} → A → B → A × B
@@ -42,7 +18,7 @@ row and others = (row, others)
 infixr 10 _and_
 -- the rows of the table, in its order
 pub starred-hold : AllHold starred
-unfolding leadingDigits decimal height levelOf covers meet join answer levelTerms upperTerms
+unfolding anyBeyond leadingDigits decimal height levelOf covers meet join answer levelTerms upperTerms
 starred-hold =
     refl
     and refl
@@ -53,18 +29,18 @@ starred-hold =
     and refl
     and refl
     and refl
-    and row-builds five-near (omega arith) refl (λ positive. omega arith)
-    and row-builds five-near (omega arith) refl (λ positive. omega arith)
-    and row-builds hundreds-near (omega arith) refl (λ positive. omega arith)
-    and row-builds hundreds-near (omega arith) refl (λ positive. omega arith)
-    and row-least-band hundreds-near (omega arith) (λ positive. omega arith)
-    and row-least-band hundreds-near (omega arith) (λ positive. omega arith)
-    and row-least-band hundreds-near (omega arith) (λ positive. omega arith)
-    and row-builds last-hundred-near (omega arith) refl (λ positive. omega arith)
-    and row-first last-hundred-near {error = 0} (omega arith) refl (λ positive. omega arith)
-    and row-builds last-hundred-near (omega arith) refl (λ positive. omega arith)
-    and row-builds three-hundreds-near (omega arith) refl (λ positive. omega arith)
-    and row-first three-hundreds-near {error = 0} (omega arith) refl (λ positive. omega arith)
-    and row-first four-rising-near {error = 5} (omega arith) refl (λ positive. omega arith)
-    and row-first four-falling-near {error = 8} (omega arith) refl (λ positive. omega arith)
+    and row-builds five (pos 0) tt (omega arith) refl (λ positive. omega arith)
+    and row-builds five (pos 0) tt (omega arith) refl (λ positive. omega arith)
+    and row-builds hundreds (pos 0) tt (omega arith) refl (λ positive. omega arith)
+    and row-builds hundreds (pos 0) tt (omega arith) refl (λ positive. omega arith)
+    and row-least-band hundreds (pos 0) tt (omega arith) (λ positive. omega arith)
+    and row-least-band hundreds (pos 0) tt (omega arith) (λ positive. omega arith)
+    and row-least-band hundreds (pos 0) tt (omega arith) (λ positive. omega arith)
+    and row-builds lastHundred (pos 0) tt (omega arith) refl (λ positive. omega arith)
+    and row-first lastHundred (pos 0) tt {error = 0} (omega arith) refl (λ positive. omega arith)
+    and row-builds lastHundred (pos 0) tt (omega arith) refl (λ positive. omega arith)
+    and row-builds threeHundreds (pos 0) tt (omega arith) refl (λ positive. omega arith)
+    and row-first threeHundreds (pos 0) tt {error = 0} (omega arith) refl (λ positive. omega arith)
+    and row-first fourRising (pos 100) tt {error = 5} (omega arith) refl (λ positive. omega arith)
+    and row-first fourFalling (pos 1000) tt {error = 8} (omega arith) refl (λ positive. omega arith)
     and tt

@@ -1,11 +1,11 @@
 -- Instances of building and of the least band, from the number of terms that the tree needs for a band, computed on lists of windows: `row-builds`, `row-first`, `row-least-band`.
 use mathlib.Core.Path.{_≡_, sym, _∙_}
 use mathlib.Core.Bool.{not}
-use mathlib.Core.List.{List}
+use mathlib.Core.List.{List, _∷_}
 use Prim.Native.Nat.{ℕ, suc, _-_, _≤_, _<_}
 use native.Mathlib.Omega.{arith}
 use lib.Dec.{T}
-use lib.IntN.{ℤ, natAbs}
+use lib.IntN.{ℤ}
 use lib.ListN.{length}
 use Rattle.limits.specs.Limits.{anyBeyond}
 use Rattle.limits.proofs.Beyond.{within-all}
@@ -26,14 +26,10 @@ use Rattle.instances.specs.Instances.{CountAndError}
 abbrev pub neededTerms : List ℤ → ℤ → ℕ → ℕ
 neededTerms profile rest band = termsFor band (height (length profile)) profile (lifted rest)
 
--- what is asked of a profile and a rest value: no number beyond ±20,000
-pub record Near (profile : List ℤ) (rest : ℤ) : Type 0 where
-  pub none-beyond : T (not (anyBeyond profile))
-  pub rest-within : natAbs rest ≤ 20000
-
-module _ {profile : List ℤ} {rest : ℤ} (near : Near profile rest) where
+-- a profile and a rest value with no number beyond ±20,000
+module _ (profile : List ℤ) (rest : ℤ) (none-beyond : T (not (anyBeyond (rest ∷ profile)))) where
   in-range : InRange profile rest
-  in-range = record { setpoints-within = within-all profile (near .none-beyond); rest-within = near .rest-within }
+  in-range = record { setpoints-within = λ slot. within-all (rest ∷ profile) none-beyond (suc slot); rest-within = within-all (rest ∷ profile) none-beyond 0 }
 
   -- building's synopsis is the walk's for an error: as many terms are needed for it as for the band, and more for any smaller error
   module _ {band error : ℕ} (within : error ≤ band) (as-many : neededTerms profile rest error ≡ neededTerms profile rest band)
