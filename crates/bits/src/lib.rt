@@ -31,6 +31,15 @@ impl BitPlace {
     // The width of a whole term.
     pub const TERM: usize = Self::NODE + Self::VALUE;
 
+    pub const SPECIAL_COUNT: usize = 10;
+
+    pub const SLOT: usize = 9;
+
+    pub const OWN_BAND: usize = 16;
+
+    // The width of a whole special slot.
+    pub const SPECIAL: usize = Self::SLOT + Self::OWN_BAND;
+
     // The first bit.
     pub fn start() -> Self
         ensures { λ r. ⌜ r .at ≡ 0 ⌝ }

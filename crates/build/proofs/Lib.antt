@@ -5,3 +5,4 @@ pub mod Halving
 pub mod Handed
 pub mod OverTree
 pub mod Trees
+pub mod OneBand

@@ -1,5 +1,7 @@
-// What building and least band turn away, in document 01's order, and what lent memory holds after each call.
+// What building and least band turn away, in the documents' order, and what lent memory holds after each call.
 // In each refusal every later check would fail too, so the order shows. Every lent place holds 9 before a call.
+mod special_slots;
+
 use build::BuildAnswer;
 use build::LeastBandAnswer;
 use build::build_synopsis;
@@ -11,17 +13,19 @@ use printing::print_number_after;
 use printing::print_refusal;
 use printing::print_term;
 use printing::print_unchanged;
+ghost use mathlib.Core.Path.{_≡_};
 ghost use Prim.Native.Nat.{_≤_};
 ghost use lib.ListN.{length};
 
 // The scratch that both calls need.
-const SCRATCH: usize = 12288;
+pub const SCRATCH: usize = 12288;
 
 fn main() {
     lengths();
     rest_values();
     setpoints_beyond();
     bands();
+    special_slots::run();
     too_few_places();
     just_enough();
     least_band_profiles();
@@ -33,33 +37,33 @@ fn lengths() {
     let setpoints = [7i16; 513];
     build(b"513 slots", &setpoints, 0, 0, 1024, SCRATCH);
     build(b"512 slots", &setpoints[..512], 0, 0, 1024, SCRATCH);
-    build(b"513 slots, all else wrong", &setpoints, 20001, -1, 0, 0);
-    build(b"no slots", &setpoints[..0], 20001, -1, 0, 0);
+    refuse(b"513 slots, all else wrong", &setpoints, 20001, -1);
+    refuse(b"no slots", &setpoints[..0], 20001, -1);
 }
 
 // Rest values beyond their limits.
 fn rest_values() {
     let above = [0i16, 20001];
     let limits = [-20000i16, 20000];
-    build(b"a rest value above", &above, 20001, -1, 0, 0);
-    build(b"a rest value below", &limits, -20001, -1, 0, 0);
-    build(b"the least rest value", &limits, -2147483648, -1, 0, 0);
+    refuse(b"a rest value above", &above, 20001, -1);
+    refuse(b"a rest value below", &limits, -20001, -1);
+    refuse(b"the least rest value", &limits, -2147483648, -1);
 }
 
 fn setpoints_beyond() {
     let above = [0i16, 20001];
     let below = [-20001i16, 0];
     let least = [-32768i16];
-    build(b"a setpoint above", &above, 20000, -1, 0, 0);
-    build(b"a setpoint below", &below, -20000, 40001, 0, 0);
-    build(b"the least setpoint", &least, 0, 40001, 0, 0);
+    refuse(b"a setpoint above", &above, 20000, -1);
+    refuse(b"a setpoint below", &below, -20000, 40001);
+    refuse(b"the least setpoint", &least, 0, 40001);
 }
 
 // Bands beyond their limits, and all numbers at theirs.
 fn bands() {
     let limits = [-20000i16, 20000];
-    build(b"a band below", &limits, 20000, -1, 0, 0);
-    build(b"a band above", &limits, -20000, 40001, 0, 0);
+    refuse(b"a band below", &limits, 20000, -1);
+    refuse(b"a band above", &limits, -20000, 40001);
     build(b"all at their limits", &limits, 20000, 40000, 2, SCRATCH);
 }
 
@@ -98,8 +102,17 @@ fn least_band_budgets() {
 }
 
 // What is lent; then the refusal's number, the count, the greatest error, the destination's first places and scratch.
-fn build(what: &[u8], setpoints: &[i16], rest: i32, band: i32, places: usize, numbers: usize)
-    requires { ⌜ (places ≤ 1024) × (numbers ≤ 12289) ⌝ }
+pub fn build_for(
+    what: &[u8],
+    setpoints: &[i16],
+    rest: i32,
+    band: i32,
+    specials: &[u16],
+    own: &[u16],
+    places: usize,
+    numbers: usize,
+)
+    requires { ⌜ (length (now specials) ≡ length (now own)) × (places ≤ 1024) × (numbers ≤ 12289) ⌝ }
 {
     let mut nodes = [9u16; 1024];
     let mut values = [9i16; 1024];
@@ -108,6 +121,8 @@ fn build(what: &[u8], setpoints: &[i16], rest: i32, band: i32, places: usize, nu
         setpoints,
         rest,
         band,
+        specials,
+        own,
         &mut nodes,
         &mut values,
         &mut scratch,
@@ -120,23 +135,52 @@ fn build(what: &[u8], setpoints: &[i16], rest: i32, band: i32, places: usize, nu
     print_scratch(answer.refusal, &scratch);
 }
 
+// The same, with a special slot that is wrong for every number of slots, no place for a term and no scratch.
+fn refuse(what: &[u8], setpoints: &[i16], rest: i32, band: i32) {
+    let slots = [600u16; 1];
+    let own = [40001u16; 1];
+    build_for(what, setpoints, rest, band, &slots, &own, 0, 0);
+}
+
+// The same, with no special slots.
+pub fn build(what: &[u8], setpoints: &[i16], rest: i32, band: i32, places: usize, numbers: usize)
+    requires { ⌜ (places ≤ 1024) × (numbers ≤ 12289) ⌝ }
+{
+    let slots = [0u16; 1];
+    let own = [0u16; 1];
+    build_for(
+        what,
+        setpoints,
+        rest,
+        band,
+        &slots[..0],
+        &own[..0],
+        places,
+        numbers,
+    );
+}
+
 // Lends the first places of the destinations and the first numbers of scratch to building.
 fn build_in(
     setpoints: &[i16],
     rest: i32,
     band: i32,
+    specials: &[u16],
+    own: &[u16],
     nodes: &mut [u16],
     values: &mut [i16],
     scratch: &mut [i16],
     places: usize,
     numbers: usize,
 ) -> BuildAnswer
-    requires { ⌜ (places ≤ length (now nodes)) × (places ≤ length (now values)) × (numbers ≤ length (now scratch)) ⌝ }
+    requires { ⌜ (length (now specials) ≡ length (now own)) × (places ≤ length (now nodes)) × (places ≤ length (now values)) × (numbers ≤ length (now scratch)) ⌝ }
 {
     build_synopsis(
         setpoints,
         rest,
         band,
+        specials,
+        own,
         &mut nodes[..places],
         &mut values[..places],
         &mut scratch[..numbers],

@@ -1,4 +1,4 @@
--- The fewest terms are reached: the walk from the root down, gathered into a list, keeps the band with as many, and leads every other list that does.
+-- The fewest terms are reached: the walk from the root down, gathered into a list, keeps the bands with as many, and leads every other list that does.
 use mathlib.Core.Path.{_≡_, refl, ap, sym, _∙_}
 use mathlib.Core.Bool.{Bool, true, false, cond}
 use mathlib.Core.Option.{Option, none, some}
@@ -24,7 +24,7 @@ use Rattle.fewest.proofs.Best.{best-within}
 use Rattle.fewest.proofs.Binary.{level-from, level-below}
 use Rattle.fewest.proofs.Fewest.{made-reaches-fewest}
 use Rattle.fewest.proofs.Leading.{walk-leads}
-use Rattle.claims.specs.Best.{KeepingSynopsis}
+use Rattle.claims.specs.Best.{KeepingSynopsis, oneBand}
 use Rattle.claims.specs.LeastBand.{CanKeep}
 use Rattle.claims.specs.Inner.{lifted, accepts, termNode, termValue, fewestTerms, InRange, gathered, comesIn, walked}
 use Rattle.claims.proofs.Lifted.{lifted-within}
@@ -77,17 +77,17 @@ module _ (accepts : ℕ → ℕ → Bool) (height rest : ℕ) (termAt : ℕ → 
         ∙ ap (λ (value : ℕ). chosen 40000 (costOf (height - levels) node) value) (comes-in-restored levels node under-root (omega arith));
   }
 
-module _ {profile : List ℤ} {rest : ℤ} (in-range : InRange profile rest) (band : ℕ) where
+module _ {profile : List ℤ} {rest : ℤ} (in-range : InRange profile rest) (bands : List ℕ) where
   -- each leaf accepts a value: its slot's setpoint, or any where it is filler
-  some-accepted : (leaf : ℕ) → Inhabited 40000 (accepts profile band leaf)
+  some-accepted : (leaf : ℕ) → Inhabited 40000 (accepts profile bands leaf)
   some-accepted leaf =
       let slot : ℕ = leaf - padded (length profile) in
       let setpoint : ℕ = lifted (setpointOf profile slot) in
-      record { value = setpoint; within = lifted-within (setpointOf profile slot) (in-range .setpoints-within slot); inside = near-accepted profile band leaf setpoint (omega arith) }
+      record { value = setpoint; within = lifted-within (setpointOf profile slot) (in-range .setpoints-within slot); inside = near-accepted profile bands leaf setpoint (omega arith) }
 
   -- the terms that the walk leaves
   abbrev pub walkedTerms : List Term
-  walkedTerms = gathered (walked (cost binary (accepts profile band) 40000) (height (length profile)) (lifted rest)) 1 (2 * padded (length profile) - 1)
+  walkedTerms = gathered (walked (cost binary (accepts profile bands) 40000) (height (length profile)) (lifted rest)) 1 (2 * padded (length profile) - 1)
 
   -- a valid list
   pub walked-valid : Valid (length profile) walkedTerms
@@ -95,32 +95,37 @@ module _ {profile : List ℤ} {rest : ℤ} (in-range : InRange profile rest) (ba
       gathered-valid _ (λ node. chosen-within _ _) 0 1 (2 * padded (length profile) - 1) (2 * padded (length profile)) (omega arith) (omega (arith, pow-pos (height (length profile)))) .passes
 
   -- made node by node as the theory's walk
-  walked-made : Made binary (accepts profile band) 40000 (height (length profile)) (lifted rest) (lookup termNode termValue walkedTerms)
+  walked-made : Made binary (accepts profile bands) 40000 (height (length profile)) (lifted rest) (lookup termNode termValue walkedTerms)
   walked-made =
-      walk-is-made (accepts profile band) (height (length profile)) (lifted rest) (lookup termNode termValue walkedTerms)
+      walk-is-made (accepts profile bands) (height (length profile)) (lifted rest) (lookup termNode termValue walkedTerms)
       (λ node from below. gathered-looks-up _ 1 (2 * padded (length profile) - 1) node from (omega (arith, pow-pos (height (length profile)))))
 
   -- that is one of the smallest, by the theory
-  walked-smallest : Smallest termNode termValue binary (accepts profile band) 40000 (height (length profile)) (lifted rest) walkedTerms
+  walked-smallest : Smallest termNode termValue binary (accepts profile bands) 40000 (height (length profile)) (lifted rest) walkedTerms
   walked-smallest =
-      made-reaches-fewest termNode termValue binary (accepts profile band) 40000 (height (length profile)) (lifted rest) some-accepted walkedTerms
+      made-reaches-fewest termNode termValue binary (accepts profile bands) 40000 (height (length profile)) (lifted rest) some-accepted walkedTerms
       (valid-is-listed (length profile) walkedTerms walked-valid) walked-made
 
-  -- so it keeps the band
-  pub walked-keeps : KeepingSynopsis profile rest band walkedTerms
-  walked-keeps = record { valid = walked-valid; keeps = keeps-from-theory in-range walkedTerms walked-valid band (walked-smallest .keeps) }
+  -- so it keeps the bands
+  pub walked-keeps : KeepingSynopsis profile rest bands walkedTerms
+  walked-keeps = record { valid = walked-valid; keeps = keeps-from-theory in-range walkedTerms walked-valid bands (walked-smallest .keeps) }
 
   -- with the fewest terms
-  pub walked-as-few : length walkedTerms ≡ fewestTerms profile rest band
+  pub walked-as-few : length walkedTerms ≡ fewestTerms profile rest bands
   walked-as-few = walked-smallest .length-is
 
-  -- and it leads every other that keeps the band with as few
-  pub walked-leads : (other : List Term) → KeepingSynopsis profile rest band other → length other ≡ fewestTerms profile rest band → Leads termNode termValue walkedTerms other
+  -- and it leads every other that keeps the bands with as few
+  pub walked-leads : (other : List Term) → KeepingSynopsis profile rest bands other → length other ≡ fewestTerms profile rest bands → Leads termNode termValue walkedTerms other
   walked-leads other keeping as-few =
-      walk-leads termNode termValue binary (accepts profile band) 40000 (height (length profile)) (lifted rest) walkedTerms other
+      walk-leads termNode termValue binary (accepts profile bands) 40000 (height (length profile)) (lifted rest) walkedTerms other
       (valid-is-listed (length profile) walkedTerms walked-valid) walked-made walked-smallest (valid-is-listed (length profile) other (keeping .valid))
-      (record { keeps = keeps-in-theory in-range other (keeping .valid) band (keeping .keeps); length-is = as-few })
+      (record { keeps = keeps-in-theory in-range other (keeping .valid) bands (keeping .keeps); length-is = as-few })
 
-  -- a band that needs no more terms than a budget can be kept within it
-  pub budget-suffices : {budget : ℕ} → fewestTerms profile rest band ≤ budget → CanKeep profile rest budget band
-  budget-suffices enough = record { terms = walkedTerms; synopsis = walked-keeps; within-budget = omega (arith, walked-as-few) }
+-- a band that needs no more terms than a budget can be kept within it
+pub budget-suffices : {profile : List ℤ} {rest : ℤ} (in-range : InRange profile rest) (band : ℕ) {budget : ℕ} → fewestTerms profile rest (oneBand profile band) ≤ budget
+    → CanKeep profile rest budget band
+budget-suffices {profile} in-range band enough = record {
+  terms = walkedTerms in-range (oneBand profile band);
+  synopsis = walked-keeps in-range (oneBand profile band);
+  within-budget = omega (arith, walked-as-few in-range (oneBand profile band));
+}

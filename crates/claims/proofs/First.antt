@@ -1,10 +1,10 @@
--- Of a profile and rest value within range and a band there is a first best synopsis: the walk's for the least band that needs no more terms.
--- Every best synopsis keeps that band too, with as few terms, so that the theory compares them: `walked-first`.
-use mathlib.Core.Path.{_≡_, sym, _∙_}
+-- Of a profile of a slot or more and a rest value within range, and a band for each slot, there is a first best synopsis: the walk's for the bands less the greatest margin that needs no more terms.
+-- Every best synopsis keeps these too, with as few terms, so that the theory compares them: `walked-first`.
+use mathlib.Core.Path.{_≡_, refl, sym, _∙_}
 use mathlib.Core.Bool.{not}
 use mathlib.Core.Logic.{⊎-elim}
 use mathlib.Core.List.{List, [], _∷_}
-use Prim.Native.Nat.{ℕ, zero, suc, _-_, _≤_, _<_}
+use Prim.Native.Nat.{ℕ, zero, suc, _≤_, _<_}
 use native.Mathlib.Decide.{decLe}
 use native.Mathlib.Omega.{arith}
 use lib.Dec.{T, lt→ltb}
@@ -15,17 +15,17 @@ use mir.Facts.{yes-and}
 use borrow.Author.Tests.{le-ltb}
 use Rattle.limits.proofs.Tests.{either-first, either-second}
 use Rattle.histogram.specs.declared.Term.{Term}
-use Rattle.histogram.specs.Errors.{greatestError}
+use Rattle.histogram.specs.Errors.{slotsOf, slotBand, least, leastMargin}
 use Rattle.histogram.proofs.Ascent.{ValidFrom, first-within, rest-valid}
-use Rattle.histogram.proofs.Expected.{greatest-keeps}
+use Rattle.histogram.proofs.Margins.{least-within, least-bound}
 use Rattle.fewest.specs.Terms.{Leads}
-use Rattle.claims.specs.Best.{Best}
+use Rattle.claims.specs.Best.{KeepingSynopsis, Best}
 use Rattle.claims.specs.First.{comesBefore, inOrder, First, firstSynopsis}
-use Rattle.claims.specs.Inner.{lifted, termNode, termValue, fewestTerms, InRange}
+use Rattle.claims.specs.Inner.{lifted, termNode, termValue, fewestTerms, narrowed, Spared, InRange}
 use Rattle.claims.proofs.InOrder.{lower-node, lower-value, not-lower}
 use Rattle.claims.proofs.Chosen.{first-is}
 use Rattle.claims.proofs.Exists.{walkedTerms, walked-keeps, walked-as-few, walked-leads}
-use Rattle.claims.proofs.Reduced.{best-at-least-error, error-is-band}
+use Rattle.claims.proofs.Reduced.{wider-bands, narrowed-band, synopsis-needs, keeps-wider, has-margin, keeps-narrowed, no-greater-margin}
 
 -- values lifted compare as they did
 lower-lifted : (x y : ℤ) → lifted x < lifted y → T (ltZ x y)
@@ -61,61 +61,96 @@ leads-in-order (term ∷ terms) (other ∷ others) valid others-valid leads =
     (level .1))
     leads
 
--- a band up to the one given that needs no more terms, where every narrower one does
-pub record Narrowest (profile : List ℤ) (rest : ℤ) (band error : ℕ) : Type 0 where
-  pub within : error ≤ band
-  pub no-more : fewestTerms profile rest error ≤ fewestTerms profile rest band
-  pub narrower-more : 0 < error → fewestTerms profile rest band < fewestTerms profile rest (error - 1)
+-- a margin with which the fewest terms are no more, where with one more they are
+pub record GreatestMargin (profile : List ℤ) (rest : ℤ) (bands : List ℕ) (margin : ℕ) : Type 0 where
+  pub spared : Spared profile bands margin
+  pub no-more : fewestTerms profile rest (narrowed margin bands) ≤ fewestTerms profile rest bands
+  pub next-more : Spared profile bands (suc margin) → fewestTerms profile rest bands < fewestTerms profile rest (narrowed (suc margin) bands)
 
-module _ {profile : List ℤ} {rest : ℤ} (in-range : InRange profile rest) where
-  module _ {band error : ℕ} (narrowest : Narrowest profile rest band error) where
-    -- every narrower band needs more terms than the walk's list for it has
-    needs-more : 0 < error → length (walkedTerms in-range error) < fewestTerms profile rest (error - 1)
-    needs-more some = omega (arith, walked-as-few in-range error, narrowest .no-more, narrowest .narrower-more some)
+module _ {profile : List ℤ} {rest : ℤ} (in-range : InRange profile rest) (some-slot : 1 ≤ slotsOf profile) where
+  module _ {bands : List ℕ} {margin : ℕ} (greatest : GreatestMargin profile rest bands margin) where
+    -- the walk's list for the bands less that margin
+    abbrev walkedList : List Term
+    walkedList = walkedTerms in-range (narrowed margin bands)
 
-    -- so its greatest error is that band
-    pub walked-error : greatestError profile rest (walkedTerms in-range error) ≡ error
-    walked-error = error-is-band in-range (walked-keeps in-range error) needs-more
+    keeps-narrow : KeepingSynopsis profile rest (narrowed margin bands) walkedList
+    keeps-narrow = walked-keeps in-range (narrowed margin bands)
 
-    walked-best : Best profile rest band (walkedTerms in-range error)
-    walked-best = best-at-least-error in-range (narrowest .within) (walked-keeps in-range error) (walked-as-few in-range error) (narrowest .no-more) needs-more
+    -- has the fewest terms for the bands themselves
+    as-few : length walkedList ≡ fewestTerms profile rest bands
+    as-few =
+        omega (
+          arith,
+          walked-as-few in-range (narrowed margin bands),
+          greatest .no-more,
+          wider-bands profile rest (narrowed margin bands) bands (λ slot counts. omega (arith, narrowed-band margin bands slot)),
+        )
 
-    -- every best synopsis is as short and keeps that band too, so the walk's leads it
-    best-led : (other : List Term) → Best profile rest band other → Leads termNode termValue (walkedTerms in-range error) other
+    -- no synopsis as short has a greater least margin
+    margin-at-most : (other : List Term) → KeepingSynopsis profile rest bands other → length other ≡ length walkedList → leastMargin profile rest other bands ≤ margin
+    margin-at-most other keeping as-many = no-greater-margin in-range keeping margin (λ spared. omega (arith, as-many, as-few, greatest .next-more spared))
+
+    -- so its least margin is that margin
+    pub walked-margin : leastMargin profile rest walkedList bands ≡ margin
+    walked-margin =
+        omega (arith, has-margin in-range margin some-slot (greatest .spared) keeps-narrow, margin-at-most walkedList (keeps-wider in-range margin keeps-narrow) refl)
+
+    walked-best : Best profile rest bands walkedList
+    walked-best = record {
+      synopsis = keeps-wider in-range margin keeps-narrow;
+      fewest = λ other keeping. omega (arith, as-few, synopsis-needs in-range keeping);
+      greatest-margin = λ other keeping as-many. omega (arith, walked-margin, margin-at-most other keeping as-many);
+    }
+
+    -- every best synopsis is as short and has that margin too, so the walk's leads it
+    best-led : (other : List Term) → Best profile rest bands other → Leads termNode termValue walkedList other
     best-led other best =
-        let as-many : length other ≡ length (walkedTerms in-range error) =
-        omega (arith, best .fewest (walkedTerms in-range error) (walked-best .synopsis), walked-best .fewest other (best .synopsis)) in
-        let as-close = best .least-error (walkedTerms in-range error) (walked-best .synopsis) (sym as-many) in
-        walked-leads in-range error other
-        (record { valid = best .synopsis .valid; keeps = greatest-keeps profile rest other error (omega (arith, as-close, walked-error)) })
-        (as-many ∙ walked-as-few in-range error)
+        let as-many : length other ≡ length walkedList = omega (arith, best .fewest walkedList (walked-best .synopsis), walked-best .fewest other (best .synopsis)) in
+        let as-wide = best .greatest-margin walkedList (walked-best .synopsis) (sym as-many) in
+        walked-leads in-range (narrowed margin bands) other (keeps-narrowed in-range (best .synopsis) (omega (arith, as-wide, walked-margin))) (as-many ∙ walked-as-few in-range (narrowed margin bands))
 
-    -- the walk's list for the narrowest band that needs no more terms is the first of the best synopses
-    walked-first : First profile rest band (walkedTerms in-range error)
+    -- the walk's list for the greatest margin that needs no more terms is the first of the best synopses
+    walked-first : First profile rest bands walkedList
     walked-first = record {
       best = walked-best;
-      first = λ other best.
-          leads-in-order (walkedTerms in-range error) other (record { passes = walked-best .synopsis .valid }) (record { passes = best .synopsis .valid }) (best-led other best);
+      first = λ other best. leads-in-order walkedList other (record { passes = walked-best .synopsis .valid }) (record { passes = best .synopsis .valid }) (best-led other best);
     }
 
     -- so it is `firstSynopsis`
-    pub synopsis-walked : firstSynopsis profile rest band ≡ walkedTerms in-range error
+    pub synopsis-walked : firstSynopsis profile rest bands ≡ walkedList
     synopsis-walked = first-is walked-first
 
-  -- such a band is found by going down while no more terms are needed
-  narrowest-from : (band error : ℕ) → error ≤ band → fewestTerms profile rest error ≤ fewestTerms profile rest band → (least : ℕ) × Narrowest profile rest band least
-  narrowest-from band zero within no-more = (0, record { within = within; no-more = no-more; narrower-more = λ wrong. absurd (omega arith) })
-  narrowest-from band (suc error) within no-more = split (decLe (fewestTerms profile rest error) (fewestTerms profile rest band)) (narrowest-from band error (omega arith))
-    where
-      split : Dec (fewestTerms profile rest error ≤ fewestTerms profile rest band) → (fewestTerms profile rest error ≤ fewestTerms profile rest band → (least : ℕ) × Narrowest profile rest band least)
-          → (least : ℕ) × Narrowest profile rest band least
-      split (yes as-few) narrower = narrower as-few
-      split (no more) narrower =
-          let one-less : suc error - 1 ≡ error = omega arith in
-          (suc error, record { within = within; no-more = no-more; narrower-more = λ some. rw one-less (omega (arith, more)) })
+  module _ (bands : List ℕ) where
+    -- such a margin is found by going down from one that no band leaves more room for
+    margin-from : (margin : ℕ) → Spared profile bands margin → (Spared profile bands (suc margin) → fewestTerms profile rest bands < fewestTerms profile rest (narrowed (suc margin) bands))
+        → (found : ℕ) × GreatestMargin profile rest bands found
+    margin-from zero spared next-more = (
+      0,
+      record {
+        spared = spared;
+        no-more = wider-bands profile rest bands (narrowed 0 bands) (λ slot counts. omega (arith, narrowed-band 0 bands slot));
+        next-more = next-more;
+      },
+    )
+    margin-from (suc margin) spared next-more =
+        split (decLe (fewestTerms profile rest (narrowed (suc margin) bands)) (fewestTerms profile rest bands))
+        (margin-from margin (record { each = λ slot counts. omega (arith, spared .each slot counts) }))
+      where
+        split : Dec (fewestTerms profile rest (narrowed (suc margin) bands) ≤ fewestTerms profile rest bands)
+            → ((Spared profile bands (suc margin) → fewestTerms profile rest bands < fewestTerms profile rest (narrowed (suc margin) bands)) → (found : ℕ) × GreatestMargin profile rest bands found)
+            → (found : ℕ) × GreatestMargin profile rest bands found
+        split (yes no-more) lower = (suc margin, record { spared = spared; no-more = no-more; next-more = next-more })
+        split (no more) lower = lower (λ _. omega (arith, more))
 
-  -- `firstSynopsis` is the first of the best synopses
-  pub synopsis-first : (band : ℕ) → First profile rest band (firstSynopsis profile rest band)
-  synopsis-first band =
-      let found = narrowest-from band band (omega arith) (omega arith) in
-      rw (synopsis-walked (found .1)) (walked-first (found .1))
+    -- the least band leaves room for itself and for no more
+    abbrev top : ℕ
+    top = least (slotBand bands) (slotsOf profile)
+
+    found-margin : (found : ℕ) × GreatestMargin profile rest bands found
+    found-margin =
+        margin-from top (record { each = λ slot counts. least-within (slotBand bands) (slotsOf profile) slot counts })
+        (λ spared. absurd (omega (arith, least-bound (slotBand bands) (slotsOf profile) (suc top) some-slot (spared .each))))
+
+    -- `firstSynopsis` is the first of the best synopses
+    pub synopsis-first : First profile rest bands (firstSynopsis profile rest bands)
+    synopsis-first = rw (synopsis-walked (found-margin .1)) (walked-first (found-margin .1))

@@ -79,6 +79,6 @@ in-order-same (term ∷ terms) (other ∷ others) forth back =
     split false true ordered later forth back = absurd forth
     split false false same later forth back = ap₂ (λ (first : Term) (more : List Term). first ∷ more) same (later forth back)
 
--- of a profile, rest value and band only one synopsis is the first
-pub first-only : {profile : List ℤ} {rest : ℤ} {band : ℕ} {terms other : List Term} → First profile rest band terms → First profile rest band other → terms ≡ other
+-- of a profile, rest value and bands only one synopsis is the first
+pub first-only : {profile : List ℤ} {rest : ℤ} {bands : List ℕ} {terms other : List Term} → First profile rest bands terms → First profile rest bands other → terms ≡ other
 first-only {terms = terms} {other = other} one another = in-order-same terms other (one .first other (another .best)) (another .first terms (one .best))

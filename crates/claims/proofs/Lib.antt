@@ -4,6 +4,7 @@ pub mod Gathered
 pub mod Exists
 pub mod Reduced
 pub mod Widest
+pub mod OneBand
 pub mod InOrder
 pub mod Selected
 pub mod Enumerated

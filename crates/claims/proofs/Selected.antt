@@ -1,5 +1,5 @@
 -- What the selections from a list have: `those` has exactly the elements that pass a test, `foremost` exactly those that pass a test of two against every element,
--- `leastBy` exactly those whose number is least.
+-- `leastBy` exactly those whose number is least, `greatestBy` those whose number is greatest.
 use mathlib.Core.Path.{_≡_, refl, subst}
 use mathlib.Core.Bool.{Bool, true, false, cond}
 use mathlib.Core.Logic.{⊎-elim}
@@ -7,7 +7,7 @@ use mathlib.Core.List.{List, [], _∷_, List·Memᴰ, List·Memᴰ·head, List·
 use Prim.Native.Nat.{ℕ, _≤_}
 use lib.Dec.{T, leb, leb→le, le→leb}
 use mir.Facts.{and-yes, yes-and}
-use Rattle.claims.specs.First.{those, allPass, foremost, leastBy}
+use Rattle.claims.specs.First.{those, allPass, foremost, leastBy, greatestBy}
 
 module _ {A : Type 0} where
   -- a list has exactly the elements of which something holds
@@ -99,4 +99,21 @@ module _ {A : Type 0} where
         only = λ element among.
             let found = selection .only element among in
             record { holds = found .holds; no-greater = λ other holds. leb→le (number element) (number other) (found .against other holds) };
+      }
+
+  -- an element of which something holds, and whose number is no smaller than that of any such element
+  pub record Greatest (number : A → ℕ) (Holds : A → Type 0) (element : A) : Type 0 where
+    pub holds : Holds element
+    pub no-smaller : (other : A) → Holds other → number other ≤ number element
+
+  -- `greatestBy` selects exactly these
+  pub greatest-exactly : (number : A → ℕ) {list : List A} {Holds : A → Type 0} → Exactly list Holds → Exactly (greatestBy number list) (Greatest number Holds)
+  greatest-exactly number exactly =
+      let selection = foremost-exactly (λ (one other : A). leb (number other) (number one)) exactly in
+      record {
+        has = λ element greatest.
+            selection .has element (record { holds = greatest .holds; against = λ other holds. le→leb (number other) (number element) (greatest .no-smaller other holds) });
+        only = λ element among.
+            let found = selection .only element among in
+            record { holds = found .holds; no-smaller = λ other holds. leb→le (number other) (number element) (found .against other holds) };
       }

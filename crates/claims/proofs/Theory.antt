@@ -15,7 +15,7 @@ use Rattle.histogram.specs.declared.Term.{Term}
 use Rattle.histogram.specs.Tree.{height, padded}
 use Rattle.histogram.specs.Terms.{Valid, termOr}
 use Rattle.histogram.specs.Restored.{restored, pathNodes}
-use Rattle.histogram.specs.Errors.{slotsOf, setpointOf, slotError, Keeps}
+use Rattle.histogram.specs.Errors.{slotsOf, setpointOf, slotError, slotBand, Keeps}
 use Rattle.histogram.proofs.Ascent.{ValidFrom, first-above, first-below, first-within, rest-valid}
 use Rattle.histogram.proofs.Above.{path-of-node}
 use Rattle.histogram.proofs.Order.{below-or-not}
@@ -71,27 +71,28 @@ leaf-level levels node from below =
     path-of-node node some-node ∙ ap suc (level-only (level-rule node some-node) (record { reached = from; next-not = below }))
 
 -- filler accepts every value, and any other slot just what is within its band
-module _ (profile : List ℤ) (band leaf value : ℕ) where
+module _ (profile : List ℤ) (bands : List ℕ) (leaf value : ℕ) where
   abbrev slotAt : ℕ
   slotAt = leaf - padded (length profile)
 
   abbrev away : ℕ
   away = distance (lifted (setpointOf profile slotAt)) value
 
-  filler-accepts : slotsOf profile ≤ slotAt → T (accepts profile band leaf value)
+  filler-accepts : slotsOf profile ≤ slotAt → T (accepts profile bands leaf value)
   filler-accepts past = rw (le-leb (slotsOf profile) slotAt past) tt
 
-  pub near-accepted : away ≤ band → T (accepts profile band leaf value)
-  near-accepted near = rw (le-leb away band near, or-true) tt
+  pub near-accepted : away ≤ slotBand bands slotAt → T (accepts profile bands leaf value)
+  near-accepted near = rw (le-leb away (slotBand bands slotAt) near, or-true) tt
 
-  accepted-near : slotAt < slotsOf profile → T (accepts profile band leaf value) → away ≤ band
-  accepted-near counts accepted = leb→le away band (rw (lt-leb (slotsOf profile) slotAt counts) at accepted)
+  accepted-near : slotAt < slotsOf profile → T (accepts profile bands leaf value) → away ≤ slotBand bands slotAt
+  accepted-near counts accepted = leb→le away (slotBand bands slotAt) (rw (lt-leb (slotsOf profile) slotAt counts) at accepted)
 
--- with a wider band a leaf accepts no less
-pub wider-accepts : (profile : List ℤ) (narrow wide : ℕ) → narrow ≤ wide → (leaf value : ℕ) → T (accepts profile narrow leaf value) → T (accepts profile wide leaf value)
+-- with wider bands a leaf accepts no less
+pub wider-accepts : (profile : List ℤ) (narrow wide : List ℕ) → ((slot : ℕ) → slot < slotsOf profile → slotBand narrow slot ≤ slotBand wide slot)
+    → (leaf value : ℕ) → T (accepts profile narrow leaf value) → T (accepts profile wide leaf value)
 wider-accepts profile narrow wide wider leaf value accepted =
     ⊎-elim
-    (λ counts. near-accepted profile wide leaf value (omega (arith, accepted-near profile narrow leaf value counts accepted)))
+    (λ counts. near-accepted profile wide leaf value (omega (arith, accepted-near profile narrow leaf value counts accepted, wider (leaf - padded (length profile)) counts)))
     (λ past. filler-accepts profile wide leaf value past)
     (below-or-not (leaf - padded (length profile)) (slotsOf profile))
 
@@ -108,32 +109,32 @@ module _ {profile : List ℤ} {rest : ℤ} (in-range : InRange profile rest) (te
       ∙ ap (λ (value : ℕ). distance (lifted (setpointOf profile slot)) value)
       (lifted-restored rest terms (pathNodes leaf) leaf ∙ ap (λ (count : ℕ). restoredFrom binary (lookup termNode termValue terms) (lifted rest) count leaf) path)
 
-  -- what keeps a band keeps it in the theory
-  pub keeps-in-theory : (band : ℕ) → Keeps profile rest terms band
-      → Theory.Keeps binary (accepts profile band) (height (length profile)) (lifted rest) (lookup termNode termValue terms)
-  keeps-in-theory band keeps = record { each-leaf = at-leaf }
+  -- what keeps its bands keeps them in the theory
+  pub keeps-in-theory : (bands : List ℕ) → Keeps profile rest terms bands
+      → Theory.Keeps binary (accepts profile bands) (height (length profile)) (lifted rest) (lookup termNode termValue terms)
+  keeps-in-theory bands keeps = record { each-leaf = at-leaf }
     where
       at-leaf : (leaf : ℕ) → ancestor binary (height (length profile)) leaf ≡ 1
-          → T (accepts profile band leaf (restoredFrom binary (lookup termNode termValue terms) (lifted rest) (suc (height (length profile))) leaf))
+          → T (accepts profile bands leaf (restoredFrom binary (lookup termNode termValue terms) (lifted rest) (suc (height (length profile))) leaf))
       at-leaf leaf under-root =
           let slot : ℕ = leaf - padded (length profile) in
           let from : padded (length profile) ≤ leaf = level-from (height (length profile)) leaf under-root in
           let in-tree : slot < padded (length profile) = omega (arith, level-below (height (length profile)) leaf under-root) in
           let same : padded (length profile) + slot ≡ leaf = omega arith in
           ⊎-elim
-          (λ counts. near-accepted profile band leaf _ (rw (error-at-leaf slot in-tree, same) at (keeps .every-slot slot counts)))
-          (λ past. filler-accepts profile band leaf _ past)
+          (λ counts. near-accepted profile bands leaf _ (rw (error-at-leaf slot in-tree, same) at (keeps .every-slot slot counts)))
+          (λ past. filler-accepts profile bands leaf _ past)
           (below-or-not slot (slotsOf profile))
 
-  -- and what keeps a band in the theory keeps it
-  pub keeps-from-theory : (band : ℕ) → Theory.Keeps binary (accepts profile band) (height (length profile)) (lifted rest) (lookup termNode termValue terms)
-      → Keeps profile rest terms band
-  keeps-from-theory band keeps = record { every-slot = at-slot }
+  -- and what keeps them in the theory keeps them
+  pub keeps-from-theory : (bands : List ℕ) → Theory.Keeps binary (accepts profile bands) (height (length profile)) (lifted rest) (lookup termNode termValue terms)
+      → Keeps profile rest terms bands
+  keeps-from-theory bands keeps = record { every-slot = at-slot }
     where
-      at-slot : (slot : ℕ) → slot < slotsOf profile → slotError profile rest terms slot ≤ band
+      at-slot : (slot : ℕ) → slot < slotsOf profile → slotError profile rest terms slot ≤ slotBand bands slot
       at-slot slot counts =
           let in-tree : slot < padded (length profile) = omega (arith, height-reaches (length profile)) in
           let leaf : ℕ = padded (length profile) + slot in
           let same : leaf - padded (length profile) ≡ slot = omega arith in
           let accepted = keeps .each-leaf leaf (number-at-level (height (length profile)) leaf (omega arith) (omega arith)) in
-          rw (error-at-leaf slot in-tree) (rw same at (accepted-near profile band leaf _ (omega arith) accepted))
+          rw (error-at-leaf slot in-tree) (rw same at (accepted-near profile bands leaf _ (omega arith) accepted))

@@ -1,5 +1,5 @@
--- The first of several best synopses: document 02, F-5. For the auditor.
--- Of a profile and rest value within range and a band there is exactly one, and it is `firstSynopsis`: `synopsis-first` (proofs/First.antt) and `first-only` (proofs/InOrder.antt).
+-- The first of several best synopses: document 02, F-5 and F-6. For the auditor.
+-- Of a profile of a slot or more and a rest value within range, and a band for each slot, there is exactly one, and it is `firstSynopsis`: `synopsis-first` (proofs/First.antt) and `first-only` (proofs/InOrder.antt).
 use mathlib.Core.Bool.{Bool, true, false, not, _||_, _&&_, cond}
 use mathlib.Core.List.{List, [], _∷_, _++_, map, flatMap}
 use Prim.Native.Nat.{ℕ, zero, suc, _*_, _-_}
@@ -9,7 +9,7 @@ use lib.ListN.{length}
 use lib.Signed.{ltZ}
 use Rattle.histogram.specs.declared.Term.{Term}
 use Rattle.histogram.specs.Tree.{padded}
-use Rattle.histogram.specs.Errors.{greatestError, kept}
+use Rattle.histogram.specs.Errors.{leastMargin, kept}
 use Rattle.claims.specs.Best.{Best}
 
 -- "lower node first, then lower value": whether a term comes before another
@@ -23,9 +23,9 @@ inOrder (term ∷ terms) [] = false
 inOrder (term ∷ terms) (other ∷ others) = comesBefore term other || (not (comesBefore other term) && inOrder terms others)
 
 -- the first of the best synopses: it comes before every best one, or is the same
-pub record First (profile : List ℤ) (rest : ℤ) (band : ℕ) (terms : List Term) : Type 0 where
-  pub best : Best profile rest band terms
-  pub first : (other : List Term) → Best profile rest band other → T (inOrder terms other)
+pub record First (profile : List ℤ) (rest : ℤ) (bands : List ℕ) (terms : List Term) : Type 0 where
+  pub best : Best profile rest bands terms
+  pub first : (other : List Term) → Best profile rest bands other → T (inOrder terms other)
 
 -- the lowest values, `count` of them: -20,000 and on
 unfoldable pub lowestValues : ℕ → List ℤ
@@ -58,23 +58,26 @@ module _ {A : Type 0} where
   abbrev pub foremost : (A → A → Bool) → List A → List A
   foremost test list = those (λ one. allPass (test one) list) list
 
-  -- the elements of a list for which a number is least
+  -- the elements of a list for which a number is least, and those for which it is greatest
   abbrev pub leastBy : (A → ℕ) → List A → List A
   leastBy number = foremost (λ one other. leb (number one) (number other))
+
+  abbrev pub greatestBy : (A → ℕ) → List A → List A
+  greatestBy number = foremost (λ one other. leb (number other) (number one))
 
 -- the first of some lists of terms; no term where there is no list
 abbrev pub firstOf : List (List Term) → List Term
 firstOf [] = []
 firstOf (terms ∷ others) = terms
 
-module _ (profile : List ℤ) (rest : ℤ) (band : ℕ) where
-  -- the synopses that keep the band
+module _ (profile : List ℤ) (rest : ℤ) (bands : List ℕ) where
+  -- the synopses that keep the bands
   abbrev pub keepingSynopses : List (List Term)
-  keepingSynopses = those (λ terms. kept profile rest terms band) (allSynopses (length profile))
+  keepingSynopses = those (λ terms. kept profile rest terms bands) (allSynopses (length profile))
 
-  -- of these "the synopses with the fewest terms and, among these, the least greatest error"
+  -- of these the ones with the fewest terms, and "among smallest synopses the least margin .. is to be the greatest possible"
   abbrev pub bestSynopses : List (List Term)
-  bestSynopses = leastBy (greatestError profile rest) (leastBy length keepingSynopses)
+  bestSynopses = greatestBy (λ terms. leastMargin profile rest terms bands) (leastBy length keepingSynopses)
 
   -- of these "the first": the synopsis that building gives
   unfoldable pub firstSynopsis : List Term

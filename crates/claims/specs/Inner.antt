@@ -1,14 +1,14 @@
 -- A profile as the theory of fewest terms takes it: numbers from 0 up. For the proofs alone.
 use mathlib.Core.Bool.{Bool, _||_}
-use mathlib.Core.List.{List, [], _∷_}
+use mathlib.Core.List.{List, [], _∷_, map}
 use mathlib.Core.Option.{Option, none, some}
-use Prim.Native.Nat.{ℕ, zero, suc, _+_, _-_, _/_, _≤_}
+use Prim.Native.Nat.{ℕ, zero, suc, _+_, _-_, _/_, _≤_, _<_}
 use lib.Dec.{leb}
 use lib.IntN.{ℤ, pos, negsuc, natAbs, subℕ}
 use lib.ListN.{length}
 use Rattle.histogram.specs.declared.Term.{Term}
 use Rattle.histogram.specs.Tree.{height, padded, levelOf}
-use Rattle.histogram.specs.Errors.{slotsOf, setpointOf, bandAt}
+use Rattle.histogram.specs.Errors.{slotsOf, setpointOf, slotBand}
 use Rattle.fewest.specs.Node.{placed, chosen}
 use Rattle.fewest.specs.Tree.{binary}
 use Rattle.fewest.specs.Cost.{fewest}
@@ -23,10 +23,10 @@ abbrev pub distance : ℕ → ℕ → ℕ
 distance a b = (a - b) + (b - a)
 
 -- whether the slot at a leaf accepts a value: it is filler, which accepts every value, or the value is within the slot's band of its setpoint
-abbrev pub accepts : List ℤ → ℕ → ℕ → ℕ → Bool
-accepts profile band leaf value =
+abbrev pub accepts : List ℤ → List ℕ → ℕ → ℕ → Bool
+accepts profile bands leaf value =
     let slot : ℕ = leaf - padded (length profile) in
-    leb (slotsOf profile) slot || leb (distance (lifted (setpointOf profile slot)) value) (bandAt band slot)
+    leb (slotsOf profile) slot || leb (distance (lifted (setpointOf profile slot)) value) (slotBand bands slot)
 
 -- a term's node and its value, as the theory takes them
 abbrev pub termNode : Term → ℕ
@@ -35,9 +35,17 @@ termNode term = term .node
 abbrev pub termValue : Term → ℕ
 termValue term = lifted (term .value)
 
--- the fewest terms of a synopsis that keeps a band, by the theory
-abbrev pub fewestTerms : List ℤ → ℤ → ℕ → ℕ
-fewestTerms profile rest band = fewest binary (accepts profile band) 40000 (height (length profile)) (lifted rest)
+-- the fewest terms of a synopsis that keeps its bands, by the theory
+abbrev pub fewestTerms : List ℤ → ℤ → List ℕ → ℕ
+fewestTerms profile rest bands = fewest binary (accepts profile bands) 40000 (height (length profile)) (lifted rest)
+
+-- bands less a margin: a synopsis that keeps them has that margin at the least
+abbrev pub narrowed : ℕ → List ℕ → List ℕ
+narrowed margin bands = map (λ band. band - margin) bands
+
+-- a margin that every slot's band leaves room for
+pub record Spared (profile : List ℤ) (bands : List ℕ) (margin : ℕ) : Type 0 where
+  pub each : (slot : ℕ) → slot < slotsOf profile → margin ≤ slotBand bands slot
 
 -- setpoints and rest value within ±20,000
 pub record InRange (profile : List ℤ) (rest : ℤ) : Type 0 where

@@ -1,19 +1,20 @@
 // Fires a profile text from standard input: document 01, "One firing in full".
-use build::build_synopsis;
+use build::build_first;
 use decimal::write::write_number;
 use histogram::restore::restore_profile;
 use libc::STDIN_FILENO;
 use printing::print;
 use printing::print_count;
+use profile::TextAnswer;
 use profile::read_text;
 ghost use mathlib.Core.Path.{_≡_};
 ghost use Prim.Native.Nat.{_≤_};
 ghost use lib.ListN.{length};
-ghost use Rattle.build.specs.Inner.{RightProfile};
+ghost use Rattle.build.specs.Inner.{KnownProfile};
 
 fn main() {
     // One byte more than the longest text has decides for a text of any length (`first-bytes-read` in profile/proofs/Decided.antt):
-    // of a longer text so many bytes hold a line that is too long for a number, or all the lines that a text may have and a byte more.
+    // of a longer text so many bytes hold a line that is too long for its numbers, or all the lines that a text may have and a byte more.
     let mut text = [0u8; profile::LONGEST_TEXT + 1];
     let count = io::read_full(STDIN_FILENO, &mut text);
     fire(&text[..count]);
@@ -21,26 +22,41 @@ fn main() {
 
 fn fire(text: &[u8]) {
     let mut setpoints = [0i16; 512];
-    let read = read_text(text, &mut setpoints);
+    let mut bands = [0u16; 512];
+    let read = read_text(text, &mut setpoints, &mut bands);
     if 0 < read.refusal {
         print_refused(read.refusal);
         return;
     }
     let slots = read.slots;
-    fire_profile(&setpoints[..slots], read.rest, read.band);
+    fire_profile(&setpoints[..slots], &bands[..slots], read);
 }
 
-// Building refuses no profile that was read.
-fn fire_profile(setpoints: &[i16], rest: i32, band: i32)
-    requires { ⌜ RightProfile (now setpoints) rest band ⌝ }
+// Building refuses no profile that was read. The band printed is the common one.
+fn fire_profile(setpoints: &[i16], bands: &[u16], numbers: TextAnswer)
+    requires { ⌜ KnownProfile (now setpoints) (now bands) (numbers .rest) (numbers .band) (numbers .specials) ⌝ }
 {
     let mut nodes = [0u16; 512];
     let mut values = [0i16; 512];
     let mut scratch = [0i16; 12288];
-    let built = build_synopsis(setpoints, rest, band, &mut nodes, &mut values, &mut scratch);
+    let built = build_first(
+        setpoints,
+        bands,
+        numbers.band as u32,
+        numbers.specials,
+        numbers.rest,
+        &mut nodes,
+        &mut values,
+        &mut scratch,
+    );
     let count = built.count;
-    print_summary(setpoints.len(), count, band, built.error);
-    print_synopsis(setpoints.len(), rest, &nodes[..count], &values[..count]);
+    print_summary(setpoints.len(), count, numbers.band, built.error);
+    print_synopsis(
+        setpoints.len(),
+        numbers.rest,
+        &nodes[..count],
+        &values[..count],
+    );
 }
 
 fn print_synopsis(slots: usize, rest: i32, nodes: &[u16], values: &[i16])

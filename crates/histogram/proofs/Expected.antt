@@ -1,5 +1,5 @@
--- What a reader expects of `restored` and of the errors: a slot's own term is its value, no term at all leaves the rest value,
--- a term at the root alone reaches every slot, and a synopsis keeps a band exactly where its greatest error is within it.
+-- What a reader expects of `restored` and of the greatest error: a slot's own term is its value, no term at all leaves the rest value,
+-- a term at the root alone reaches every slot, and the greatest of some numbers is the least that none of them exceeds.
 use mathlib.Core.Path.{_≡_, refl, ap, _∙_}
 use mathlib.Core.List.{List, [], _∷_, List·Memᴰ, List·Memᴰ·head, List·Memᴰ·tail}
 use mathlib.Core.Logic.{⊎-elim}
@@ -12,7 +12,7 @@ use Rattle.histogram.specs.declared.Term.{Term}
 use Rattle.histogram.specs.Tree.{height, padded}
 use Rattle.histogram.specs.Terms.{Valid, termOr}
 use Rattle.histogram.specs.Restored.{restored, restoredAt, restoredSlot, pathNodes}
-use Rattle.histogram.specs.Errors.{slotsOf, slotError, greatest, greatestError, Keeps}
+use Rattle.histogram.specs.Errors.{greatest}
 use Rattle.histogram.proofs.Above.{from-above}
 use Rattle.histogram.proofs.Ascent.{ValidFrom, first-above, rest-valid}
 use Rattle.histogram.proofs.Order.{below-or-not}
@@ -71,12 +71,12 @@ under-root rest value (suc bound) node low from =
 pub root-alone : (n : ℕ) (rest value : ℤ) (slot : ℕ) → restoredSlot n rest (rootTerm value) slot ≡ value
 root-alone n rest value slot = under-root rest value (padded n + slot) (padded n + slot) (omega arith) (omega (arith, pow-pos (height n)))
 
-greatest-bound : (f : ℕ → ℕ) (count bound : ℕ) → ((k : ℕ) → k < count → f k ≤ bound) → greatest f count ≤ bound
+pub greatest-bound : (f : ℕ → ℕ) (count bound : ℕ) → ((k : ℕ) → k < count → f k ≤ bound) → greatest f count ≤ bound
 unfolding greatest
 greatest-bound f zero bound each = omega arith
 greatest-bound f (suc count) bound each = omega (arith, greatest-bound f count bound (λ k below. each k (omega arith)), each count (omega arith))
 
-each-within : (f : ℕ → ℕ) (count k : ℕ) → k < count → f k ≤ greatest f count
+pub each-within : (f : ℕ → ℕ) (count k : ℕ) → k < count → f k ≤ greatest f count
 unfolding greatest
 each-within f zero k below = absurd (omega arith)
 each-within f (suc count) k below =
@@ -84,13 +84,3 @@ each-within f (suc count) k below =
     (λ before. omega (arith, each-within f count k before))
     (λ from. let last : k ≡ count = omega arith in omega (arith, ap f last))
     (below-or-not k count)
-
-module _ (profile : List ℤ) (rest : ℤ) (terms : List Term) (band : ℕ) where
-  -- a synopsis keeps a band exactly where its greatest error is within the band
-  pub keeps-greatest : Keeps profile rest terms band → greatestError profile rest terms ≤ band
-  keeps-greatest keeps = greatest-bound (slotError profile rest terms) (slotsOf profile) band (keeps .every-slot)
-
-  pub greatest-keeps : greatestError profile rest terms ≤ band → Keeps profile rest terms band
-  greatest-keeps within = record {
-    every-slot = λ slot below. omega (arith, each-within (slotError profile rest terms) (slotsOf profile) slot below);
-  }

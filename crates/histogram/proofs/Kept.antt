@@ -8,7 +8,7 @@ use native.Mathlib.Omega.{arith}
 use lib.IntN.{ℤ}
 use borrow.Author.Tests.{le-leb, leb-true}
 use Rattle.histogram.specs.declared.Term.{Term}
-use Rattle.histogram.specs.Errors.{slotsOf, slotError, Keeps, every, kept}
+use Rattle.histogram.specs.Errors.{slotsOf, slotError, slotBand, Keeps, every, kept}
 
 pub every-passes : (test : ℕ → Bool) (count : ℕ) → ((k : ℕ) → k < count → test k ≡ true) → every test count ≡ true
 unfolding every
@@ -38,11 +38,11 @@ every-same one other zero same = refl
 every-same one other (suc count) same = ap₂ _&&_ (every-same one other count (λ k below. same k (omega arith))) (same count (omega arith))
 
 -- "kept" is said exactly when every slot lies within the band
-pub kept-keeps : (profile : List ℤ) (rest : ℤ) (terms : List Term) (band : ℕ) → kept profile rest terms band ≡ true → Keeps profile rest terms band
-kept-keeps profile rest terms band is-kept = record {
-  every-slot = λ slot below. leb-true (slotError profile rest terms slot) band (each-passes _ (slotsOf profile) is-kept slot below);
+pub kept-keeps : (profile : List ℤ) (rest : ℤ) (terms : List Term) (bands : List ℕ) → kept profile rest terms bands ≡ true → Keeps profile rest terms bands
+kept-keeps profile rest terms bands is-kept = record {
+  every-slot = λ slot below. leb-true (slotError profile rest terms slot) (slotBand bands slot) (each-passes _ (slotsOf profile) is-kept slot below);
 }
 
-pub keeps-kept : (profile : List ℤ) (rest : ℤ) (terms : List Term) (band : ℕ) → Keeps profile rest terms band → kept profile rest terms band ≡ true
-keeps-kept profile rest terms band keeps =
-    every-passes _ (slotsOf profile) (λ slot below. le-leb (slotError profile rest terms slot) band (keeps .every-slot slot below))
+pub keeps-kept : (profile : List ℤ) (rest : ℤ) (terms : List Term) (bands : List ℕ) → Keeps profile rest terms bands → kept profile rest terms bands ≡ true
+keeps-kept profile rest terms bands keeps =
+    every-passes _ (slotsOf profile) (λ slot below. le-leb (slotError profile rest terms slot) (slotBand bands slot) (keeps .every-slot slot below))

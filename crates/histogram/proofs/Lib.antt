@@ -6,6 +6,7 @@ pub mod Expected
 pub mod Handing
 pub mod Kept
 pub mod Lookup
+pub mod Margins
 pub mod Order
 pub mod Paired
 pub mod Powers

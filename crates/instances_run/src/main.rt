@@ -1,7 +1,8 @@
-// Runs the documents' instances of numbers, texts, restoring and records, others beside them, and choices of two offers, and prints each with its answer.
+// Runs the documents' instances of numbers, texts, restoring and records, others beside them, choices of two offers and special slots, and prints each with its answer.
 mod numbers;
 mod records;
 mod restoring;
+mod special_slots;
 mod texts;
 mod winners;
 
@@ -11,4 +12,5 @@ fn main() {
     restoring::run();
     records::run();
     winners::run();
+    special_slots::run();
 }

@@ -1,11 +1,12 @@
-// Records written and read, and what the check refuses.
+// Records without special slots written and read, and what the check refuses.
 use printing::print;
 use printing::print_bytes;
 use printing::print_call;
 use printing::print_count_after;
 use printing::print_number_after;
 use printing::print_refusal;
-use printing::print_setpoint;
+use printing::print_special;
+use printing::print_term;
 use record_check::CheckAnswer;
 use record_check::check_record;
 use record_read::HeaderAnswer;
@@ -52,20 +53,20 @@ fn written() {
 fn refused_headers() {
     let nodes = [8u16, 8];
     let values = [1i16, 1];
-    write(0, -1, 20001, &nodes, &values);
-    write(513, -1, 20001, &nodes, &values);
-    write(4, -1, 20001, &nodes, &values);
-    write(4, -1, 0, &nodes, &values);
-    write(4, 40001, 0, &nodes, &values);
+    refuse(0, -1, 20001, &nodes, &values);
+    refuse(513, -1, 20001, &nodes, &values);
+    refuse(4, -1, 20001, &nodes, &values);
+    refuse(4, -1, 0, &nodes, &values);
+    refuse(4, 40001, 0, &nodes, &values);
 }
 
 // A node twice, and one past the last of 4 slots but not of 8.
 fn refused_terms() {
     let nodes = [8u16, 8];
     let values = [1i16, 1];
-    write(4, 40000, 0, &nodes, &values);
-    write(4, 40000, 0, &nodes[..1], &values[..1]);
-    write(8, 40000, 0, &nodes, &values);
+    refuse(4, 40000, 0, &nodes, &values);
+    refuse(4, 40000, 0, &nodes[..1], &values[..1]);
+    refuse(8, 40000, 0, &nodes, &values);
     write(8, 40000, 0, &nodes[..1], &values[..1]);
 }
 
@@ -78,8 +79,8 @@ fn document() {
 }
 
 fn malformed() {
-    let version = [32u8, 24, 0, 200, 43, 192, 2, 1, 131, 219, 128];
-    read(b"version 2", &version);
+    let version = [0u8, 24, 0, 200, 43, 192, 2, 1, 131, 219, 128];
+    read(b"version 0", &version);
     let fill = [16u8, 24, 0, 200, 43, 192, 2, 1, 131, 219, 129];
     read(b"fill not zero", &fill);
 }
@@ -120,16 +121,16 @@ fn lengths() {
 fn greatest_length() {
     let mut nodes = [0u16; 1023];
     let values = [7i16; 1023];
-    number(&mut nodes);
+    number(1, &mut nodes);
     let mut bytes = [255u8; 3332];
     there_and_back(&nodes, &values, &mut bytes);
 }
 
-// Numbers nodes from 1 on.
-fn number(nodes: &mut [u16]) {
+// Numbers places from `first` on.
+pub fn number(first: u16, places: &mut [u16]) {
     let mut i = 0;
-    while i < nodes.len() {
-        nodes[i] = (i % 65535 + 1) as u16;
+    while i < places.len() {
+        places[i] = ((first as usize + i % 65536) % 65536) as u16;
         i += 1;
     }
 }
@@ -137,29 +138,51 @@ fn number(nodes: &mut [u16]) {
 fn there_and_back(nodes: &[u16], values: &[i16], bytes: &mut [u8])
     requires { ⌜ length (now nodes) ≡ length (now values) ⌝ }
 {
-    let answer = write_record(512, 300, 0, nodes, values, bytes);
-    print_count_after(b"a record of ", nodes.len());
-    print(b" terms");
+    let slots = [0u16; 1];
+    let own = [0u16; 1];
+    there_and_back_with(nodes, values, &slots[..0], &own[..0], bytes);
+}
+
+// The same, with special slots.
+pub fn there_and_back_with(
+    nodes: &[u16],
+    values: &[i16],
+    specials: &[u16],
+    own: &[u16],
+    bytes: &mut [u8],
+)
+    requires { ⌜ (length (now nodes) ≡ length (now values)) × (length (now specials) ≡ length (now own)) ⌝ }
+{
+    let answer = write_record(512, 300, 0, nodes, values, specials, own, bytes);
+    print_counts(nodes.len(), specials.len());
     print_written(answer);
     print(b" bytes, read back");
     back(bytes);
 }
 
+fn print_counts(terms: usize, specials: usize) {
+    print_count_after(b"a record of ", terms);
+    print_count_after(b" terms and ", specials);
+    print(b" special slots");
+}
+
 fn back(bytes: &[u8]) {
     let mut nodes = [0u16; 1023];
     let mut values = [0i16; 1023];
-    let header = read_record(bytes, &mut nodes, &mut values);
-    print_refusal(header.refusal);
-    print_count_after(b" ", header.count);
-    print(b" terms, the last place");
+    let mut specials = [0u16; 512];
+    let mut own = [0u16; 512];
+    let header = read_record(bytes, &mut nodes, &mut values, &mut specials, &mut own);
+    print_back(header);
     print_term(nodes[1022], values[1022]);
+    print_special(specials[511], own[511]);
+    print(b"\n");
 }
 
-// Ends a line with a term.
-fn print_term(node: u16, value: i16) {
-    print_number_after(b" ", node as i32);
-    print_setpoint(value);
-    print(b"\n");
+fn print_back(header: HeaderAnswer) {
+    print_refusal(header.refusal);
+    print_count_after(b" ", header.count);
+    print_count_after(b" ", header.specials);
+    print(b", the last places");
 }
 
 // In each refusal every later check would fail too, so the order shows.
@@ -173,12 +196,37 @@ fn refused_checks() {
     check(b"another length", &three, &bytes);
 }
 
-// The header, then the refusal's number, the count of bytes and the destination, which held 255 in every place.
+// Special slots that are wrong for every number of slots, and too many bytes for the destination.
+fn refuse(slots: usize, band: i32, rest: i32, nodes: &[u16], values: &[i16])
+    requires { ⌜ length (now nodes) ≡ length (now values) ⌝ }
+{
+    let wrong = [600u16, 600];
+    let own = [40001u16, 40001];
+    write_with(slots, band, rest, nodes, values, &wrong, &own);
+}
+
 fn write(slots: usize, band: i32, rest: i32, nodes: &[u16], values: &[i16])
     requires { ⌜ length (now nodes) ≡ length (now values) ⌝ }
 {
-    let mut bytes = [255u8; 12];
-    let answer = write_record(slots, band, rest, nodes, values, &mut bytes);
+    let none = [0u16; 1];
+    let own = [0u16; 1];
+    write_with(slots, band, rest, nodes, values, &none[..0], &own[..0]);
+}
+
+// The header, then the refusal's number, the count of bytes and the destination, which held 255 in every place.
+pub fn write_with(
+    slots: usize,
+    band: i32,
+    rest: i32,
+    nodes: &[u16],
+    values: &[i16],
+    specials: &[u16],
+    own: &[u16],
+)
+    requires { ⌜ (length (now nodes) ≡ length (now values)) × (length (now specials) ≡ length (now own)) ⌝ }
+{
+    let mut bytes = [255u8; 16];
+    let answer = write_record(slots, band, rest, nodes, values, specials, own, &mut bytes);
     print_header(b"write ", slots, band, rest);
     print_written(answer);
     print(b":");
@@ -197,23 +245,28 @@ fn print_written(answer: WriteAnswer) {
     print_count_after(b" ", answer.count);
 }
 
-// What it is, then the refusal's number, slots, band, rest value, count, and the destinations' one place.
-fn read(what: &[u8], bytes: &[u8]) {
+// What it is, then the refusal's number, slots, band, rest value, both counts, and the destinations' one place for a term and for a special slot.
+pub fn read(what: &[u8], bytes: &[u8]) {
     let mut nodes = [9u16; 1];
     let mut values = [9i16; 1];
-    let header = read_record(bytes, &mut nodes, &mut values);
+    let mut specials = [9u16; 1];
+    let mut own = [9u16; 1];
+    let header = read_record(bytes, &mut nodes, &mut values, &mut specials, &mut own);
     print_call(b"read ", what);
     print_read(header);
     print_term(nodes[0], values[0]);
+    print_special(specials[0], own[0]);
+    print(b"\n");
 }
 
 fn print_read(header: HeaderAnswer) {
     print_refusal(header.refusal);
     print_header(b" ", header.slots, header.band, header.rest);
     print_count_after(b" ", header.count);
+    print_count_after(b" ", header.specials);
 }
 
-fn check(what: &[u8], setpoints: &[i16], bytes: &[u8]) {
+pub fn check(what: &[u8], setpoints: &[i16], bytes: &[u8]) {
     let answer = check_record(setpoints, bytes);
     print_call(b"check ", what);
     print_checked(answer);

@@ -4,6 +4,7 @@ use printing::print_count_after;
 use printing::print_number_after;
 use printing::print_refusal;
 use printing::print_setpoint;
+use printing::print_special;
 use profile::TextAnswer;
 use profile::read_profile;
 
@@ -40,14 +41,18 @@ fn malformed() {
     show(b"a setpoint that is no number", b"0\n0\n0\n1.450\n");
 }
 
-// What it is, then the refusal's number, the rest value, the band, the number of slots and the destination's first two places.
-fn show(what: &[u8], text: &[u8]) {
+// What it is, then the refusal's number, the rest value, the band, the numbers of slots and of special slots and the destinations' first two places.
+pub fn show(what: &[u8], text: &[u8]) {
     let mut setpoints = [7i16; 512];
-    let answer = read_profile(text, &mut setpoints);
+    let mut specials = [7u16; 512];
+    let mut own = [7u16; 512];
+    let answer = read_profile(text, &mut setpoints, &mut specials, &mut own);
     print(what);
     print_answer(answer);
     print_setpoint(setpoints[0]);
     print_setpoint(setpoints[1]);
+    print_special(specials[0], own[0]);
+    print_special(specials[1], own[1]);
     print(b"\n");
 }
 
@@ -56,15 +61,25 @@ fn print_answer(answer: TextAnswer) {
     print_number_after(b" ", answer.rest);
     print_number_after(b" ", answer.band);
     print_count_after(b" ", answer.slots);
+    print_count_after(b" ", answer.specials);
 }
 
-// A destination for one setpoint fewer than there are.
+// A destination for one setpoint fewer than there are, and one for one special slot fewer.
 fn short() {
+    into_one_place(b"two setpoints into one place", b"0\n0\n1\n2\n");
+    into_one_place(b"one setpoint into it", b"0\n0\n1 2\n");
+}
+
+// What it is, then the refusal's number, the one place for a setpoint, and none for a special slot.
+fn into_one_place(what: &[u8], text: &[u8]) {
     let mut setpoints = [7i16; 1];
-    let answer = read_profile(b"0\n0\n1\n2\n", &mut setpoints);
-    print(b"two setpoints into one place");
+    let mut specials = [7u16; 1];
+    let mut own = [7u16; 1];
+    let answer = read_profile(text, &mut setpoints, &mut specials[..0], &mut own[..0]);
+    print(what);
     print_refusal(answer.refusal);
     print_setpoint(setpoints[0]);
+    print_special(specials[0], own[0]);
     print(b"\n");
 }
 

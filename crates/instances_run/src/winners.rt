@@ -46,7 +46,7 @@ fn choose<'a>(given: &[u8], first: &'a [u8], second: &'a [u8]) {
     );
 }
 
-fn choose_for<'a>(given: &[u8], text: &[u8], first: &'a [u8], second: &'a [u8]) {
+pub fn choose_for<'a>(given: &[u8], text: &[u8], first: &'a [u8], second: &'a [u8]) {
     print_call(b"better offer of ", given);
     print(b":");
     print_bytes(better_offer(text, first, second));

@@ -60,7 +60,12 @@ pub within-fits : (z : ℤ) → natAbs z ≤ 20000 → SFits w16 z
 within-fits (pos n) small = record { sfits = omega arith }
 within-fits (negsuc n) small = record { sfits = omega arith }
 
--- also as it stands in 32 bits, and read there it is the value
+-- one within ±40,000 fits 32 bits
+pub fits-32 : (z : ℤ) → natAbs z ≤ 40000 → SFits w32 z
+fits-32 (pos n) small = record { sfits = omega arith }
+fits-32 (negsuc n) small = record { sfits = omega arith }
+
+-- a value within ±20,000 also as it stands in 32 bits, and read there it is the value
 pub narrower-fits : {z : ℤ} → SFits w32 z → natAbs z ≤ 20000 → SFits w16 (toZ w32 (ofZ w32 z))
 narrower-fits {z} fits within = rw (toZ-ofZ fits) (within-fits z within)
 

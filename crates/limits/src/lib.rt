@@ -33,6 +33,11 @@ pub const LENGTH_DIFFERS: u8 = 9;
 
 pub const NO_SUCH_SLOT: u8 = 10;
 
+// Document 02's, of F-6.
+pub const SPECIALS_WRONG: u8 = 11;
+
+pub const HAS_SPECIALS: u8 = 12;
+
 // A number without its sign. In 64 bits the sign of the least number can be turned too.
 pub fn magnitude(number: i32) -> u32
     ensures { λ r. ⌜ r ≡ natAbs number ⌝ }

@@ -1,4 +1,6 @@
 pub mod Numbers
+pub mod Bands
+pub mod Ends
 pub mod Candidates
 pub mod Choices
 pub mod Winners

@@ -1,17 +1,17 @@
--- F-1 once more, in propositions: what is true of the part that is handed back. For the auditor.
+-- F-1 with F-6 once more, in propositions: what is true of the part that is handed back. For the auditor.
 use mathlib.Core.Path.{_≡_}
 use mathlib.Core.Logic.{_⊎_}
 use mathlib.Core.List.{List, []}
 use Prim.Native.Nat.{ℕ, _≤_, _<_}
 use lib.IntN.{pos}
 use lib.ListN.{length}
-use Rattle.profile.specs.Text.{textRefusal, restOf, bandOf, setpointsOf}
-use Rattle.histogram.specs.Errors.{greatestError, Keeps}
-use Rattle.record.specs.Record.{slotsIn, bandIn, restIn, countIn, termsIn}
+use Rattle.profile.specs.Text.{textRefusal, restOf, bandOf, setpointsOf, specialsOf}
+use Rattle.histogram.specs.Errors.{leastMargin, Keeps}
+use Rattle.record.specs.Record.{slotsIn, bandIn, restIn, countIn, termsIn, specialsIn, bandsIn}
 use Rattle.record.specs.Answers.{recordRefusal}
 use Rattle.offers.specs.Offers.{recordEnd, recordOf, Part, front}
 
--- a buffer with a candidate for a text that is not refused: its record ends in it, "reads without refusal, has the text's length, band and rest value, and is 'kept'"
+-- a buffer with a candidate for a text that is not refused: its record ends in it, "reads without refusal, has the text's length, band and rest value", its special slots, "and is 'kept'"
 pub record HasCandidate (text buffer : List ℕ) : Type 0 where
   pub text-right : textRefusal text ≡ 0
   pub counted : 7 ≤ length buffer
@@ -20,16 +20,17 @@ pub record HasCandidate (text buffer : List ℕ) : Type 0 where
   pub same-length : slotsIn (recordOf buffer) ≡ length (setpointsOf text)
   pub same-band : pos (bandIn (recordOf buffer)) ≡ bandOf text
   pub same-rest : restIn (recordOf buffer) ≡ restOf text
-  pub is-kept : Keeps (setpointsOf text) (restIn (recordOf buffer)) (termsIn (recordOf buffer)) (bandIn (recordOf buffer))
+  pub same-specials : specialsIn (recordOf buffer) ≡ specialsOf text
+  pub is-kept : Keeps (setpointsOf text) (restIn (recordOf buffer)) (termsIn (recordOf buffer)) (bandsIn (recordOf buffer))
 
--- the greatest error of the record at the front of a buffer
-abbrev pub errorOf : List ℕ → List ℕ → ℕ
-errorOf text buffer = greatestError (setpointsOf text) (restIn (recordOf buffer)) (termsIn (recordOf buffer))
+-- the least margin of the record at the front of a buffer
+abbrev pub marginOf : List ℕ → List ℕ → ℕ
+marginOf text buffer = leastMargin (setpointsOf text) (restIn (recordOf buffer)) (termsIn (recordOf buffer)) (bandsIn (recordOf buffer))
 
--- "Fewer terms wins, then the smaller greatest error"
+-- "Fewer terms wins, then" the greater least margin
 pub data Beats (text buffer other : List ℕ) : Type 0 where
   fewer-terms : countIn (recordOf buffer) < countIn (recordOf other) → Beats text buffer other
-  smaller-error : countIn (recordOf buffer) ≡ countIn (recordOf other) → errorOf text buffer < errorOf text other → Beats text buffer other
+  greater-margin : countIn (recordOf buffer) ≡ countIn (recordOf other) → marginOf text other < marginOf text buffer → Beats text buffer other
 
 -- the part is the first buffer's candidate, and the second buffer has none that beats it
 pub record FirstWins (text : List ℕ) (first second part : Part) : Type 0 where

@@ -1,4 +1,4 @@
--- The calls from C: document 01, "Building, checking, least band", its last paragraph, and "What the panel turns away"; document 02, F-1 and F-5. For the auditor.
+-- The calls from C: document 01, "Building, checking, least band", its last paragraph, and "What the panel turns away"; document 02, F-1, F-5 and F-6. For the auditor.
 -- A result packs four 16-bit fields, lowest first: the refusal's number, and three more that a refusal leaves 0.
 use mathlib.Core.Path.{_≡_}
 use mathlib.Core.Bool.{cond}
@@ -8,13 +8,14 @@ use lib.Dec.{ltb}
 use lib.IntN.{natAbs}
 use lib.ListN.{length}
 use Rattle.limits.specs.Answers.{_when_, _then_, granted, laid}
-use Rattle.profile.specs.Text.{textRefusal, restOf, bandOf, setpointsOf}
+use Rattle.profile.specs.Text.{textRefusal, restOf, bandOf, setpointsOf, bandsOf, specialsOf}
 use Rattle.bits.specs.Signed.{complement}
 use Rattle.histogram.specs.declared.Term.{Term}
 use Rattle.histogram.specs.Restored.{restoredSlot}
 use Rattle.histogram.specs.Errors.{greatestError, kept}
-use Rattle.record.specs.Record.{recordLength, recordBytes, slotsIn, bandIn, restIn, termsIn}
-use Rattle.record_check.specs.Checking.{recordSlotRefusal, checkRefusal, lowestBeyond}
+use Rattle.verdict.specs.Verdict.{lowestBeyond}
+use Rattle.record.specs.Record.{recordLength, recordBytes, slotsIn, restIn, termsIn, bandsIn}
+use Rattle.record_check.specs.Checking.{recordSlotRefusal, checkRefusal}
 use Rattle.offers.specs.declared.Winner.{Winner}
 use Rattle.offers.specs.declared.Winner.the-variants.{Neither, First, Second}
 use Rattle.offers.specs.Offers.{winner}
@@ -29,22 +30,25 @@ packedFields refusal first second third = refusal + 65536 * (first + 65536 * (se
 abbrev pub result : ℕ → ℕ → ℕ → ℕ → ℕ
 result refusal first second third = packedFields refusal (granted refusal first 0) (granted refusal second 0) (granted refusal third 0)
 
--- the synopsis of a text's profile: the first best one for its rest value and band
+-- the synopsis of a text's profile: the first best one for its rest value and the band that each slot goes by
 abbrev pub synopsisOf : List ℕ → List Term
-synopsisOf text = firstSynopsis (setpointsOf text) (restOf text) (natAbs (bandOf text))
+synopsisOf text = firstSynopsis (setpointsOf text) (restOf text) (bandsOf text)
 
--- its record
+-- its record, with the text's special slots, and how many bytes that has
 abbrev pub textRecord : List ℕ → List ℕ
-textRecord text = recordBytes (length (setpointsOf text)) (natAbs (bandOf text)) (restOf text) (synopsisOf text)
+textRecord text = recordBytes (length (setpointsOf text)) (natAbs (bandOf text)) (restOf text) (synopsisOf text) (specialsOf text)
+
+abbrev pub textRecordLength : List ℕ → ℕ
+textRecordLength text = recordLength (length (synopsisOf text)) (length (specialsOf text))
 
 -- "Text to record: text, then 6 if the destination is shorter than the record"
 abbrev pub textToRecordRefusal : List ℕ → ℕ → ℕ
-textToRecordRefusal text places = textRefusal text then 6 when ltb places (recordLength (length (synopsisOf text)))
+textToRecordRefusal text places = textRefusal text then 6 when ltb places (textRecordLength text)
 
 -- text to record: bytes written, terms, greatest error; and the destination, with the record over its front
 pub record TextToRecord (text before after : List ℕ) (number : ℕ) : Type 0 where
   pub result-is : number
-      ≡ result (textToRecordRefusal text (length before)) (recordLength (length (synopsisOf text))) (length (synopsisOf text)) (greatestError (setpointsOf text) (restOf text) (synopsisOf text))
+      ≡ result (textToRecordRefusal text (length before)) (textRecordLength text) (length (synopsisOf text)) (greatestError (setpointsOf text) (restOf text) (synopsisOf text))
   pub destination-is : after ≡ laid (granted (textToRecordRefusal text (length before)) (textRecord text) []) before
 
 -- one slot of a record: the setpoint in two's complement, 0, 0
@@ -55,18 +59,18 @@ slotResult bytes slot = result (recordSlotRefusal bytes slot) (complement 16 (re
 abbrev pub againstTextRefusal : List ℕ → List ℕ → ℕ
 againstTextRefusal bytes text = textRefusal text then checkRefusal (setpointsOf text) bytes
 
--- record against text: 1 for kept and 0 for not kept, the greatest error, the lowest slot that exceeds the band
+-- record against text: 1 for kept and 0 for not kept, the greatest error, the lowest slot whose error exceeds its band
 abbrev pub againstTextResult : List ℕ → List ℕ → ℕ
 againstTextResult bytes text =
-    let is-kept = kept (setpointsOf text) (restIn bytes) (termsIn bytes) (bandIn bytes) in
+    let is-kept = kept (setpointsOf text) (restIn bytes) (termsIn bytes) (bandsIn bytes) in
     result (againstTextRefusal bytes text)
     (1 when is-kept)
     (cond is-kept (greatestError (setpointsOf text) (restIn bytes) (termsIn bytes)) 0)
-    (cond is-kept 0 (lowestBeyond (setpointsOf text) (restIn bytes) (termsIn bytes) (bandIn bytes)))
+    (cond is-kept 0 (lowestBeyond (setpointsOf text) (restIn bytes) (termsIn bytes) (bandsIn bytes)))
 
--- "Least band of a text: text, then 5"
+-- "Least band of a text: text, then 5"; F-6, "12 .. just ahead of 5: it has special slots"
 abbrev pub leastBandOfTextRefusal : List ℕ → ℕ → ℕ
-leastBandOfTextRefusal text budget = textRefusal text then 5 when ltb 1023 budget
+leastBandOfTextRefusal text budget = textRefusal text then 12 when ltb 0 (length (specialsOf text)) then 5 when ltb 1023 budget
 
 -- least band of a text: the band, 0, 0
 pub record LeastBandOfText (text : List ℕ) (budget number : ℕ) : Type 0 where

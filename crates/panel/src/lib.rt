@@ -1,20 +1,20 @@
 // The library's face for C: numbers and byte slices alone. Every call answers with one number of four 16-bit fields.
 use bits::complement_of;
-use build::build_synopsis;
+use build::build_first;
 use build::least_band;
 use offers::Winner;
 use offers::choose_offer;
+use profile::TextAnswer;
 use profile::read_text;
 use record_check::check_record;
 use record_check::read_slot;
-use record_write::write_record;
+use record_write::write_for_bands;
 ghost use mathlib.Core.Path.{_≡_};
 ghost use lib.IntN.{natAbs};
 ghost use Rattle.limits.specs.Answers.{_when_};
-ghost use Rattle.claims.specs.First.{firstSynopsis};
 ghost use Rattle.panel.specs.Results.{packedFields, slotResult, againstTextResult, TextToRecord, LeastBandOfText, betterOfferResult};
 ghost use Rattle.panel.specs.Inner.{Fields, RecordBuilt};
-ghost use Rattle.build.specs.Inner.{RightProfile};
+ghost use Rattle.build.specs.Inner.{KnownProfile};
 
 // A profile text to the record of its first best synopsis: bytes written, terms, greatest error.
 #[no_mangle]
@@ -22,30 +22,47 @@ pub extern "C" fn panel_text_to_record(text: &[u8], destination: &mut [u8]) -> u
     ensures { λ r. ⌜ TextToRecord (now (text .entry)) (now (destination .entry)) (now (destination .exit)) r ⌝ }
 {
     let mut setpoints = [0i16; 512];
-    let numbers = read_text(text, &mut setpoints);
+    let mut bands = [0u16; 512];
+    let numbers = read_text(text, &mut setpoints, &mut bands);
     if 0 < numbers.refusal {
         return pack(numbers.refusal as u64, 0, 0, 0);
     }
     let slots = numbers.slots;
-    build_record(&setpoints[..slots], numbers.rest, numbers.band, destination)
+    build_record(&setpoints[..slots], &bands[..slots], numbers, destination)
 }
 
-// The record of a profile's first best synopsis.
-fn build_record(setpoints: &[i16], rest: i32, band: i32, destination: &mut [u8]) -> u64
-    requires { ⌜ RightProfile (now setpoints) rest band ⌝ }
-    ensures { λ r. ⌜ RecordBuilt (now (setpoints .entry)) rest band (firstSynopsis (now (setpoints .entry)) rest (natAbs band)) (now (destination .entry)) (now (destination .exit)) r ⌝ }
+// The record of the first best synopsis of a profile whose numbers were read.
+fn build_record(
+    setpoints: &[i16],
+    bands: &[u16],
+    numbers: TextAnswer,
+    destination: &mut [u8],
+) -> u64
+    requires { ⌜ KnownProfile (now setpoints) (now bands) (numbers .rest) (numbers .band) (numbers .specials) ⌝ }
+    ensures { λ r. ⌜ RecordBuilt (now (setpoints .entry)) (now (bands .entry)) (numbers .rest) (natAbs (numbers .band)) (now (destination .entry)) (now (destination .exit)) r ⌝ }
 {
     let mut nodes = [0u16; 512];
     let mut values = [0i16; 512];
     let mut scratch = [0i16; 12288];
-    let built = build_synopsis(setpoints, rest, band, &mut nodes, &mut values, &mut scratch);
+    let built = build_first(
+        setpoints,
+        bands,
+        numbers.band as u32,
+        numbers.specials,
+        numbers.rest,
+        &mut nodes,
+        &mut values,
+        &mut scratch,
+    );
     let count = built.count;
-    let written = write_record(
+    let written = write_for_bands(
         setpoints.len(),
-        band,
-        rest,
+        numbers.band as u16,
+        numbers.rest as i16,
         &nodes[..count],
         &values[..count],
+        bands,
+        numbers.specials,
         destination,
     );
     if 0 < written.refusal {
@@ -68,13 +85,14 @@ pub extern "C" fn panel_record_slot(bytes: &[u8], slot: u64) -> u64
     )
 }
 
-// A record against a text: whether the band is kept, the greatest error, the lowest slot that exceeds the band.
+// A record against a text: whether the record's bands are kept, the greatest error, the lowest slot whose error exceeds its band.
 #[no_mangle]
 pub extern "C" fn panel_record_against_text(bytes: &[u8], text: &[u8]) -> u64
     ensures { λ r. ⌜ r ≡ againstTextResult (now (bytes .entry)) (now (text .entry)) ⌝ }
 {
     let mut setpoints = [0i16; 512];
-    let profile = read_text(text, &mut setpoints);
+    let mut bands = [0u16; 512];
+    let profile = read_text(text, &mut setpoints, &mut bands);
     if 0 < profile.refusal {
         return pack(profile.refusal as u64, 0, 0, 0);
     }
@@ -88,15 +106,19 @@ pub extern "C" fn panel_record_against_text(bytes: &[u8], text: &[u8]) -> u64
     )
 }
 
-// The least band of a text for a number of terms.
+// The least band of a text without special slots for a number of terms.
 #[no_mangle]
 pub extern "C" fn panel_least_band_of_text(text: &[u8], budget: u64) -> u64
     ensures { λ r. ⌜ LeastBandOfText (now (text .entry)) budget r ⌝ }
 {
     let mut setpoints = [0i16; 512];
-    let read = read_text(text, &mut setpoints);
+    let mut bands = [0u16; 512];
+    let read = read_text(text, &mut setpoints, &mut bands);
     if 0 < read.refusal {
         return pack(read.refusal as u64, 0, 0, 0);
+    }
+    if 0 < read.specials {
+        return pack(limits::HAS_SPECIALS as u64, 0, 0, 0);
     }
     if 1023 < budget {
         return pack(limits::BUDGET_BEYOND as u64, 0, 0, 0);

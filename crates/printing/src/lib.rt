@@ -69,6 +69,12 @@ pub fn print_term(node: u16, value: i16) {
     print_value(value);
 }
 
+// Prints a special slot after a space, as slot:band.
+pub fn print_special(slot: u16, band: u16) {
+    print_number_after(b" ", slot as i32);
+    print_number_after(b":", band as i32);
+}
+
 // Prints whether lent numbers, which held the same in every place, hold it still.
 pub fn print_unchanged(numbers: &[i16], held: i16) {
     if are_all(numbers, held) {

@@ -2,92 +2,114 @@
 use mathlib.Core.Path.{_≡_, refl, sym, ap, _∙_}
 use mathlib.Core.Bool.{false}
 use mathlib.Core.List.{List, []}
-use Prim.Native.Nat.{ℕ, zero, suc, _+_, _≤_, _<_}
+use Prim.Native.Nat.{ℕ, zero, suc, _≤_, _<_}
 use native.Mathlib.Omega.{arith}
-use lib.IntN.{ℤ}
-use lib.ListN.{length, drop, drop-of-length-le}
-use lib.Seq.{drop-drop}
+use lib.IntN.{ℤ, pos, natAbs}
+use lib.ListN.{length, drop, length-map, drop-of-length-le}
 use Rattle.limits.specs.Answers.{laid}
-use Rattle.limits.proofs.Refusals.{first-counts, granted-nothing}
-use Rattle.profile.specs.Text.{isEmpty, following, lineRefusal, valueRefusal, bandRefusal, headRefusal, setpointsText, setpointsRead, textRefusal, setpointsOf}
+use Rattle.limits.specs.Limits.{outsideBand}
+use Rattle.limits.proofs.Refusals.{first-counts, granted-nothing, passed-last}
+use Rattle.bands.specs.Bands.{specialsAmong}
+use Rattle.profile.specs.Text.{Slot, isEmpty, following, lineRefusal, valueRefusal, bandRefusal, headRefusal, setpointsText, slotsRead, bandOf, textRefusal, textSlots, setpointsOf, bandsOf}
 use Rattle.profile.specs.Answers.{textRefused, NumbersOf, TextRead}
-use Rattle.profile.specs.Inner.{LineRead, SetpointsRead}
-use Rattle.profile.proofs.Setpoints.{some-byte, none-read}
+use Rattle.profile.specs.Inner.{LineRead, setpointsIn, bandsIn, SlotsRead}
+use Rattle.profile.proofs.Checks.{line-passes, band-natural}
+use Rattle.profile.proofs.Slots.{some-byte, none-read}
 
 -- no numbers beside a refusal
 pub no-numbers : (text : List ℕ) (refusal : ℕ) → 0 < refusal → NumbersOf text (textRefused refusal)
 no-numbers text zero wrong = absurd (omega arith)
-no-numbers text (suc refusal) wrong = record { rest-is = refl; band-is = refl; slots-is = refl }
+no-numbers text (suc refusal) wrong = record { rest-is = refl; band-is = refl; slots-is = refl; specials-is = refl }
 
-module _ (text : List ℕ) (before : List ℤ) where
-  refused : (refusal : ℕ) (after : List ℤ) → 0 < refusal → refusal ≡ textRefusal text → after ≡ laid (setpointsOf text) before
-      → TextRead text (textRefused refusal) before after
-  refused refusal after wrong is room = record { refusal-is = is; numbers = no-numbers text refusal wrong; room-is = room }
+module _ (text : List ℕ) (setpoints : List ℤ) (bands : List ℕ) where
+  -- a refusal before a slot was read
+  no-slots : (refusal : ℕ) → 0 < refusal → refusal ≡ textRefusal text → textSlots text ≡ [] → TextRead text (textRefused refusal) setpoints setpoints bands bands
+  no-slots refusal wrong is nothing = record {
+    refusal-is = is;
+    numbers = no-numbers text refusal wrong;
+    setpoints-are = sym (ap (λ (slots : List Slot). laid (setpointsIn slots) setpoints) nothing);
+    bands-are = sym (ap (λ (slots : List Slot). laid (bandsIn slots) bands) nothing);
+  }
 
   -- a refusal in the first two lines
-  head-wrong : (refusal : ℕ) → 0 < refusal → headRefusal text ≡ refusal → TextRead text (textRefused refusal) before before
+  head-wrong : (refusal : ℕ) → 0 < refusal → headRefusal text ≡ refusal → TextRead text (textRefused refusal) setpoints setpoints bands bands
   head-wrong refusal wrong is =
-      let nothing : setpointsOf text ≡ [] = rw is (granted-nothing refusal (setpointsRead 512 (setpointsText text)) [] wrong) in
-      refused refusal before wrong (sym (rw is (first-counts refusal _ wrong))) (sym (ap (λ (l : List ℤ). laid l before) nothing))
+      no-slots refusal wrong
+      (sym (rw is (first-counts refusal _ wrong)))
+      (rw is (granted-nothing refusal (slotsRead (bandOf text) 512 (setpointsText text)) [] wrong))
 
-  module _ (refusal : ℕ) (rest : ℤ) (bytes : ℕ) (rest-line : LineRead valueRefusal text refusal rest bytes) where
-    pub rest-wrong : 0 < refusal → TextRead text (textRefused refusal) before before
+  module _ (refusal : ℕ) (rest : ℤ) (second : ℕ) (rest-line : LineRead valueRefusal text 0 refusal rest second) where
+    pub rest-wrong : 0 < refusal → TextRead text (textRefused refusal) setpoints setpoints bands bands
     rest-wrong wrong = head-wrong refusal wrong (rw (← rest-line .refusal-is) (first-counts refusal _ wrong))
 
     module _ (right : refusal ≤ 0) where
       rest-right : lineRefusal valueRefusal text ≡ 0
       rest-right = omega (arith, rest-line .refusal-is)
 
-      second-line : drop bytes text ≡ following text
+      second-line : drop second text ≡ following text
       second-line = rest-line .rest-is (omega arith)
 
-      module _ (refusal′ : ℕ) (band : ℤ) (bytes′ : ℕ) (band-line : LineRead bandRefusal (drop bytes text) refusal′ band bytes′) where
-        band-of-second : LineRead bandRefusal (following text) refusal′ band bytes′
-        band-of-second = rw second-line at band-line
+      module _ (refusal′ : ℕ) (band : ℤ) (third : ℕ) (band-line : LineRead bandRefusal text second refusal′ band third) where
+        band-refusal : refusal′ ≡ lineRefusal bandRefusal (following text)
+        band-refusal = rw second-line at (band-line .refusal-is)
 
-        pub band-wrong : 0 < refusal′ → TextRead text (textRefused refusal′) before before
-        band-wrong wrong = head-wrong refusal′ wrong (rw (rest-right, ← band-of-second .refusal-is) refl)
+        pub band-wrong : 0 < refusal′ → TextRead text (textRefused refusal′) setpoints setpoints bands bands
+        band-wrong wrong = head-wrong refusal′ wrong (rw (rest-right, ← band-refusal) refl)
 
         module _ (right′ : refusal′ ≤ 0) where
+          band-right : lineRefusal bandRefusal (following text) ≡ 0
+          band-right = omega (arith, band-refusal)
+
           head-right : headRefusal text ≡ 0
-          head-right = let none : lineRefusal bandRefusal (following text) ≡ 0 = omega (arith, band-of-second .refusal-is) in rw (rest-right, none) refl
+          head-right = rw (rest-right, band-right) refl
 
-          third-line : drop (bytes + bytes′) text ≡ setpointsText text
-          third-line = sym (drop-drop bytes′ bytes text) ∙ ap (drop bytes′) second-line ∙ band-of-second .rest-is (omega arith)
+          third-line : drop third text ≡ setpointsText text
+          third-line = band-line .rest-is (omega arith) ∙ ap following second-line
 
-          pub no-third-line : length text ≡ bytes + bytes′ → TextRead text (textRefused 4) before before
+          band-is : band ≡ bandOf text
+          band-is = rw second-line at (band-line .number-is)
+
+          pub band-inside : outsideBand band ≡ false
+          band-inside = rw band-is (passed-last 2 (outsideBand (bandOf text)) (line-passes bandRefusal (following text) band-right))
+
+          pub no-third-line : length text ≡ third → TextRead text (textRefused 4) setpoints setpoints bands bands
           no-third-line long =
-              let ended : setpointsText text ≡ [] = sym third-line ∙ drop-of-length-le text {i = bytes + bytes′} (omega arith) in
-              let nothing : setpointsOf text ≡ [] = rw (head-right, ended) (none-read 512) in
-              refused 4 before (omega arith) (rw (head-right, ended) refl) (sym (ap (λ (l : List ℤ). laid l before) nothing))
+              let ended : setpointsText text ≡ [] = sym third-line ∙ drop-of-length-le text {i = third} (omega arith) in
+              no-slots 4 (omega arith) (rw (head-right, ended) refl) (rw (head-right, ended) (none-read (bandOf text) 512))
 
-          module _ (more : bytes + bytes′ < length text) (refusal″ count : ℕ) (after : List ℤ)
-              (lines : SetpointsRead (drop (bytes + bytes′) text) refusal″ count before after) where
-            of-third : SetpointsRead (setpointsText text) refusal″ count before after
-            of-third = rw third-line at lines
+          module _ (more : third < length text) (refusal″ count specials : ℕ) (setpoints′ : List ℤ) (bands′ : List ℕ)
+              (lines : SlotsRead (natAbs band) text third refusal″ count specials setpoints setpoints′ bands bands′) where
+            common-is : pos (natAbs band) ≡ bandOf text
+            common-is = band-natural band band-inside ∙ band-is
 
             not-empty : isEmpty (setpointsText text) ≡ false
-            not-empty = rw (← third-line) (some-byte text (bytes + bytes′) more)
+            not-empty = rw (← third-line) (some-byte text third more)
 
             all-lines : textRefusal text ≡ refusal″
-            all-lines = rw (head-right, not-empty) (sym (of-third .refusal-is))
+            all-lines = rw (head-right, not-empty) (sym (rw (common-is, third-line) at (lines .refusal-is)))
 
-            all-setpoints : setpointsOf text ≡ setpointsRead 512 (setpointsText text)
-            all-setpoints = rw head-right
+            all-slots : textSlots text ≡ slotsRead (pos (natAbs band)) 512 (drop third text)
+            all-slots = rw (head-right, common-is, third-line)
 
-            room : after ≡ laid (setpointsOf text) before
-            room = of-third .room-is ∙ ap (λ (l : List ℤ). laid l before) (sym all-setpoints)
+            laid-setpoints : setpoints′ ≡ laid (setpointsOf text) setpoints
+            laid-setpoints = rw all-slots (lines .setpoints-are)
 
-            pub setpoint-wrong : 0 < refusal″ → TextRead text (textRefused refusal″) before after
-            setpoint-wrong wrong = refused refusal″ after wrong (sym all-lines) room
+            laid-bands : bands′ ≡ laid (bandsOf text) bands
+            laid-bands = rw all-slots (lines .bands-are)
 
-            pub all-right : refusal″ ≤ 0 → TextRead text (record { refusal = 0; rest = rest; band = band; slots = count }) before after
-            all-right none = record {
+            pub slot-wrong : 0 < refusal″ → TextRead text (textRefused refusal″) setpoints setpoints′ bands bands′
+            slot-wrong wrong = record { refusal-is = sym all-lines; numbers = no-numbers text refusal″ wrong; setpoints-are = laid-setpoints; bands-are = laid-bands }
+
+            pub all-right : refusal″ ≤ 0
+                → TextRead text (record { refusal = 0; rest = rest; band = band; slots = count; specials = specials }) setpoints setpoints′ bands bands′
+            all-right none-refused = record {
               refusal-is = omega (arith, all-lines);
               numbers = record {
                 rest-is = rest-line .number-is;
-                band-is = band-of-second .number-is;
-                slots-is = of-third .count-is ∙ ap length (sym all-setpoints);
+                band-is = band-is;
+                slots-is = lines .count-is ∙ sym (length-map (textSlots text) (λ (slot : Slot). slot .setpoint) ∙ ap length all-slots);
+                specials-is = lines .specials-is ∙ sym (ap (λ (slots : List Slot). length (specialsAmong (natAbs (bandOf text)) (bandsIn slots))) all-slots ∙ rw band-is);
               };
-              room-is = room;
+              setpoints-are = laid-setpoints;
+              bands-are = laid-bands;
             }

@@ -22,8 +22,16 @@ pub data Fits {A : Type 0} (it : A) : List (Field A) → Type 0 where
   no-row : Fits it []
   row : {field : Field A} {fields : List (Field A)} → field .holds it < 2 ^ field .width → Fits it fields → Fits it (field ∷ fields)
 
+-- a number that fits, written at a place and followed by anything, is read there
+pub field-reads-back : (bytes : List ℕ) (place width number : ℕ) (back : List ℕ) → number < 2 ^ width → drop place (bitsOf bytes) ≡ bits width number ++ back → fieldAt bytes place width ≡ number
+field-reads-back bytes place width number back fits stands = rw (stands, take-at (bits width number) back width (length-bits width number)) (number-of-bits width number fits)
+
+-- what stands behind it
+pub behind-field : (place width number : ℕ) (before back : List ℕ) → drop place before ≡ bits width number ++ back → drop (place + width) before ≡ back
+behind-field place width number before back stands = sym (drop-drop width place before) ∙ rw stands (drop-at (bits width number) back width (length-bits width number))
+
 -- a field's number writes the bits that stand there
-field-in-front : (bytes : List ℕ) (place width : ℕ) → place + width ≤ 8 * length bytes
+pub field-in-front : (bytes : List ℕ) (place width : ℕ) → place + width ≤ 8 * length bytes
     → bits width (fieldAt bytes place width) ++ drop (place + width) (bitsOf bytes) ≡ drop place (bitsOf bytes)
 field-in-front bytes place width inside =
     let from : List ℕ = drop place (bitsOf bytes) in
@@ -56,14 +64,11 @@ module _ {A : Type 0} (it : A) where
   layout-reads-back [] place bytes back no-row stands = refl
   layout-reads-back (field ∷ fields) place bytes back (row fits others) stands =
       let width : ℕ = field .width in
-      let here : List ℕ = bits width (field .holds it) in
+      let number : ℕ = field .holds it in
       let next : List ℕ = layoutBits fields it ++ back in
-      let first-stands : drop place (bitsOf bytes) ≡ here ++ next = stands ∙ append-assoc here (layoutBits fields it) back in
-      let number-is : fieldAt bytes place width ≡ field .holds it =
-      rw (first-stands, take-at here next width (length-bits width (field .holds it))) (number-of-bits width (field .holds it) fits) in
-      let next-stands : drop (place + width) (bitsOf bytes) ≡ next =
-      sym (drop-drop width place (bitsOf bytes)) ∙ rw first-stands (drop-at here next width (length-bits width (field .holds it))) in
-      ap₂ (λ (n : ℕ) (more : List ℕ). n ∷ more) number-is (layout-reads-back fields (place + width) bytes back others next-stands)
+      let first-stands : drop place (bitsOf bytes) ≡ bits width number ++ next = stands ∙ append-assoc (bits width number) (layoutBits fields it) back in
+      ap₂ (λ (n : ℕ) (more : List ℕ). n ∷ more) (field-reads-back bytes place width number next fits first-stands)
+      (layout-reads-back fields (place + width) bytes back others (behind-field place width number (bitsOf bytes) next first-stands))
 
   -- bits read by a layout, and written again, are those bits
   pub layout-is-written : (layout : List (Field A)) (place : ℕ) (bytes : List ℕ) → place + layoutWidth layout ≤ 8 * length bytes → layoutNumbers layout place bytes ≡ held layout it

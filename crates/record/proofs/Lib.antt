@@ -1,6 +1,9 @@
-pub mod Layouts
-pub mod Entries
 pub mod Bounds
+pub mod Ends
+pub mod Entries
 pub mod Fill
+pub mod Layouts
 pub mod RoundTrips
+pub mod Sound
+pub mod Specials
 pub mod Table

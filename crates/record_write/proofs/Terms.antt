@@ -1,20 +1,19 @@
--- The loop that writes terms one after another. Its law: a term that is written is the first of those that were left, so writing the others behind it gives what was to come.
+-- The loop that writes terms one after another: `Entries` for terms whose nodes and values are lent as two lists.
 use mathlib.Core.Path.{_≡_, refl, sym, ap, _∙_}
-use mathlib.Core.List.{List, [], _++_}
+use mathlib.Core.List.{List, []}
 use Prim.Native.Nat.{ℕ, suc, _+_, _*_, _≤_, _<_}
 use native.Mathlib.Numerals.{add-one}
 use native.Mathlib.Omega.{arith}
-use lib.IntN.{ℤ, pos}
-use lib.ListN.{length, getD, drop, take-append-drop, drop-of-length-le}
+use lib.IntN.{ℤ}
+use lib.ListN.{length, drop, drop-of-length-le}
 use Rattle.bits.specs.Bits.{bitsOf, replacedAt}
 use Rattle.bits.proofs.Bytes.{length-bits-of}
 use Rattle.histogram.specs.Terms.{paired}
 use Rattle.histogram.proofs.Paired.{onwards, termAt, term-there}
-use Rattle.record.specs.Layout.{layoutWidth, entriesBits}
-use Rattle.record.specs.Record.{headerLayout, termLayout, termBits, termsBits, termsEnd}
-use Rattle.record.proofs.Layouts.{length-layout}
-use Rattle.record_write.specs.Inner.{TermPut}
-use Rattle.bits.proofs.Replacing.{replaced-both}
+use Rattle.record.specs.Layout.{layoutWidth}
+use Rattle.record.specs.Record.{headerLayout, termLayout, termsBits, termsEnd}
+use Rattle.record_write.specs.Inner.{EntryPut}
+use Rattle.record_write.proofs.Entries.{first-written, none-to-write}
 
 -- the first i terms are written: the others, written from `place` on, give what all of them give behind the header
 pub record WrittenSoFar (nodes : List ℕ) (values : List ℤ) (before now : List ℕ) (place i : ℕ) : Type 0 where
@@ -34,33 +33,25 @@ module _ (nodes : List ℕ) (values : List ℤ) (before : List ℕ) where
 
   pub one-more-written : {now after : List ℕ} {place next i : ℕ} → length nodes ≡ length values → termsEnd (length nodes) ≤ 8 * length before
       → WrittenSoFar nodes values before now place i → i < length nodes → length after ≡ length now
-      → TermPut place (getD nodes i 0) (getD values i (pos 0)) next now after → WrittenSoFar nodes values before after next (i + 1)
-  unfolding entriesBits
+      → EntryPut termLayout (termAt nodes values i) place next now after → WrittenSoFar nodes values before after next (i + 1)
   one-more-written {now} {after} {place} {next} {i} same room so-far more as-long put =
-      let first : List ℕ = termBits (termAt nodes values i) in
-      let others : List ℕ = termsBits (onwards nodes values (suc i)) in
-      let first-long : length first ≡ layoutWidth termLayout = length-layout (termAt nodes values i) termLayout in
-      let behind : place + length first ≡ next = omega (arith, put .next-is) in
       let within : place ≤ length (bitsOf now) = omega (arith, so-far .place-is, so-far .same-length, length-bits-of now) in
-      let left : termsBits (onwards nodes values i) ≡ first ++ others = ap termsBits (term-there nodes values i same more) in
       record {
         inside = omega arith;
         place-is = omega (arith, so-far .place-is, put .next-is);
         same-length = as-long ∙ so-far .same-length;
         others-to-come =
-            rw (add-one i, put .bits-are)
-            (replaced-both place next first others (bitsOf now) within behind
-            ∙ ap (λ (l : List ℕ). replacedAt place l (bitsOf now)) (sym left)
+            rw (add-one i)
+            (first-written termLayout (termAt nodes values i) (onwards nodes values (suc i)) within put
+            ∙ ap (λ terms. replacedAt place (termsBits terms) (bitsOf now)) (sym (term-there nodes values i same more))
             ∙ so-far .others-to-come);
       }
 
   pub all-written : {now : List ℕ} {place i : ℕ} → WrittenSoFar nodes values before now place i → length nodes ≤ i
       → bitsOf now ≡ replacedAt (layoutWidth headerLayout) (termsBits (paired nodes values)) (bitsOf before)
-  unfolding paired entriesBits
+  unfolding paired
   all-written {now} {place} {i} so-far done =
       let none-left : drop i nodes ≡ [] = drop-of-length-le nodes done in
-      let no-further : place + length {A = ℕ} [] ≡ place = omega arith in
-      let unchanged : replacedAt place [] (bitsOf now) ≡ bitsOf now = rw no-further (take-append-drop place (bitsOf now)) in
-      sym unchanged
+      sym (none-to-write termLayout place (bitsOf now))
       ∙ sym (ap (λ (l : List ℕ). replacedAt place (termsBits (paired l (drop i values))) (bitsOf now)) none-left)
       ∙ so-far .others-to-come

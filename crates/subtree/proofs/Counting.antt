@@ -6,12 +6,13 @@ use Prim.Native.Nat.{ℕ, _+_, _*_, _≤_}
 use native.Mathlib.Omega.{arith}
 use lib.IntN.{ℤ}
 use lib.ListN.{length}
+use Rattle.claims.specs.Inner.{narrowed}
 use Rattle.windows.specs.Windows.{Window, covers, Sorted}
 use Rattle.windows.specs.Scratch.{at, windowsAt}
-use Rattle.subtree.specs.Answer.{Answer, slotWindows, answer, needed}
+use Rattle.subtree.specs.Answer.{Answer, answer, needed}
 use Rattle.subtree.specs.Stretch.{answerAt, Solved, Solvable, Counted}
 use Rattle.subtree.proofs.Places.{own-first, places-within}
-use Rattle.subtree.proofs.Slots.{windows-usable}
+use Rattle.subtree.proofs.Slots.{windowsFor, windows-usable}
 use Rattle.subtree.proofs.Answers.{answer-sorted, answer-bounded}
 use Rattle.subtree.proofs.Solving.{solved-top, count-of}
 
@@ -21,10 +22,10 @@ pub record Front (scratch : List ℤ) : Type 0 where
   pub few : 2 + 2 * at scratch 1 ≤ 65536
   pub sorted : Sorted 0 (windowsAt (at scratch) 2 (at scratch 1))
 
-module _ (band height : ℕ) (setpoints before scratch : List ℤ) (solvable : Solvable band height setpoints before)
-    (same-length : length scratch ≡ length before) (solved : Solved height (slotWindows band setpoints) (at scratch)) where
+module _ (margin height : ℕ) (setpoints : List ℤ) (bands : List ℕ) (before scratch : List ℤ) (solvable : Solvable margin height setpoints bands before)
+    (same-length : length scratch ≡ length before) (solved : Solved height (windowsFor margin bands setpoints) (at scratch)) where
   abbrev leaves : List Window
-  leaves = slotWindows band setpoints
+  leaves = windowsFor margin bands setpoints
 
   top : answerAt (at scratch) 0 ≡ answer height leaves
   top = solved-top height leaves (at scratch) solved
@@ -34,7 +35,7 @@ module _ (band height : ℕ) (setpoints before scratch : List ℤ) (solvable : S
     fits = omega (arith, solvable .room, own-first height, count-of (at scratch) 0 (answer height leaves) top, answer-bounded height leaves .few);
     few =
         omega (arith, own-first height, places-within height (solvable .in-tree), count-of (at scratch) 0 (answer height leaves) top, answer-bounded height leaves .few);
-    sorted = subst (λ (one : Answer). Sorted 0 (one .windows)) (sym top) (answer-sorted (windows-usable band (solvable .setpoints-within)) height);
+    sorted = subst (λ (one : Answer). Sorted 0 (one .windows)) (sym top) (answer-sorted (windows-usable (narrowed margin bands) (solvable .setpoints-within)) height);
   }
 
   module _ (value count : ℕ) where

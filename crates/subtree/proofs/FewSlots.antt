@@ -1,18 +1,19 @@
 -- A subtree with one slot or none needs no term: its answer is that of a leaf, whatever its height, and nothing below it is asked for.
 use mathlib.Core.Path.{_≡_, refl, sym, ap, _∙_}
 use mathlib.Core.List.{List, [], _∷_}
-use Prim.Native.Nat.{ℕ, zero, suc, _^_, _≤_}
+use Prim.Native.Nat.{ℕ, zero, suc, _-_, _^_, _≤_}
 use native.Mathlib.Omega.{arith}
-use lib.IntN.{ℤ, pos}
+use lib.IntN.{ℤ}
 use lib.ListN.{length, getD, take, drop, length-map, length-drop, drop-of-length-le}
 use lib.Pow.{pow-pos}
 use lib.Seq.{take-all}
+use Rattle.claims.specs.Inner.{narrowed}
 use Rattle.windows.specs.Windows.{Window, Sorted}
 use Rattle.windows.specs.Scratch.{at}
-use Rattle.subtree.specs.Answer.{Answer, slotWindow, slotWindows, everyValue, combined, answer}
+use Rattle.subtree.specs.Answer.{Answer, everyValue, combined, answer}
 use Rattle.subtree.specs.Stretch.{Solved, Usable, Within, LeafSolved}
 use Rattle.subtree.specs.Pair.{single}
-use Rattle.subtree.proofs.Slots.{every-value-usable, windows-usable}
+use Rattle.subtree.proofs.Slots.{every-value-usable, windowsFor, windowOf, one-slot, length-windows, windows-usable}
 use Rattle.subtree.proofs.Answers.{usable-drop}
 use Rattle.subtree.proofs.Pairs.{both-met}
 
@@ -41,35 +42,31 @@ few-solved (suc height) {leaves} usable few scratch leaf =
     let same = answer-few (suc height) usable few in
     (leaf .answer-is ∙ sym same, λ some. absurd (omega (arith, ap (λ (one : Answer). one .number) same)))
 
--- ---- the windows of few slots
+-- ---- what there is of a second pair
 
-module _ (band : ℕ) where
-  pub no-slot : (setpoints : List ℤ) → length setpoints ≡ 0 → slotWindows band setpoints ≡ []
-  no-slot [] none = refl
-  no-slot (a ∷ others) none = absurd (omega arith)
+module _ (margin : ℕ) where
+  no-second : (bands : List ℕ) (setpoints : List ℤ) → length bands ≡ length setpoints → length setpoints ≡ 2 → drop 2 (windowsFor margin bands setpoints) ≡ []
+  no-second [] setpoints same two = refl
+  no-second (band ∷ bands) [] same two = refl
+  no-second (band ∷ bands) (a ∷ others) same two = ap (drop 1) (one-slot margin bands others (omega arith) (omega arith))
 
-  pub one-slot : (setpoints : List ℤ) → length setpoints ≡ 1 → slotWindows band setpoints ≡ slotWindow band (getD setpoints 0 (pos 0)) ∷ []
-  one-slot [] one = absurd (omega arith)
-  one-slot (a ∷ []) one = refl
-  one-slot (a ∷ b ∷ others) one = absurd (omega arith)
+  half-second : (bands : List ℕ) (setpoints : List ℤ) → length bands ≡ length setpoints → length setpoints ≡ 3 → drop 2 (windowsFor margin bands setpoints) ≡ windowOf margin bands setpoints 2 ∷ []
+  half-second [] setpoints same three = absurd (omega arith)
+  half-second (first ∷ []) setpoints same three = absurd (omega arith)
+  half-second (first ∷ second ∷ bands) [] same three = absurd (omega arith)
+  half-second (first ∷ second ∷ bands) (a ∷ []) same three = absurd (omega arith)
+  half-second (first ∷ second ∷ bands) (a ∷ b ∷ others) same three = one-slot margin bands others (omega arith) (omega arith)
 
-  -- what there is of a second pair
-  no-second : (setpoints : List ℤ) → length setpoints ≡ 2 → drop 2 (slotWindows band setpoints) ≡ []
-  no-second [] two = absurd (omega arith)
-  no-second (a ∷ others) two = ap (drop 1) (one-slot others (omega arith))
+  module _ (bands : List ℕ) (setpoints right : List ℤ) (within : Within setpoints) (each-band : length bands ≡ length setpoints) where
+    windows-long : length (windowsFor margin bands setpoints) ≡ length setpoints
+    windows-long = length-windows (narrowed margin bands) setpoints (length-map bands (λ band. band - margin) ∙ each-band)
 
-  half-second : (setpoints : List ℤ) → length setpoints ≡ 3 → drop 2 (slotWindows band setpoints) ≡ slotWindow band (getD setpoints 2 (pos 0)) ∷ []
-  half-second [] three = absurd (omega arith)
-  half-second (a ∷ []) three = absurd (omega arith)
-  half-second (a ∷ b ∷ others) three = one-slot others (omega arith)
-
-  module _ (setpoints right : List ℤ) (within : Within setpoints) where
-    second-few : length setpoints ≤ 3 → LeafSolved (drop 2 (slotWindows band setpoints)) right → Solved 1 (drop 2 (slotWindows band setpoints)) (at right)
+    second-few : length setpoints ≤ 3 → LeafSolved (drop 2 (windowsFor margin bands setpoints)) right → Solved 1 (drop 2 (windowsFor margin bands setpoints)) (at right)
     second-few few leaf =
-        few-solved 1 (usable-drop (windows-usable band within) 2) (omega (arith, length-drop 2 (slotWindows band setpoints), length-map setpoints (slotWindow band))) right leaf
+        few-solved 1 (usable-drop (windows-usable (narrowed margin bands) within) 2) (omega (arith, length-drop 2 (windowsFor margin bands setpoints), windows-long)) right leaf
 
-    pub second-leaf : length setpoints ≡ 3 → LeafSolved (slotWindow band (getD setpoints 2 (pos 0)) ∷ []) right → Solved 1 (drop 2 (slotWindows band setpoints)) (at right)
-    second-leaf three leaf = second-few (omega arith) (rw (half-second setpoints three) leaf)
+    pub second-leaf : length setpoints ≡ 3 → LeafSolved (windowOf margin bands setpoints 2 ∷ []) right → Solved 1 (drop 2 (windowsFor margin bands setpoints)) (at right)
+    second-leaf three leaf = second-few (omega arith) (rw (half-second bands setpoints each-band three) leaf)
 
-    pub second-filler : length setpoints ≡ 2 → LeafSolved [] right → Solved 1 (drop 2 (slotWindows band setpoints)) (at right)
-    second-filler two leaf = second-few (omega arith) (rw (no-second setpoints two) leaf)
+    pub second-filler : length setpoints ≡ 2 → LeafSolved [] right → Solved 1 (drop 2 (windowsFor margin bands setpoints)) (at right)
+    second-filler two leaf = second-few (omega arith) (rw (no-second bands setpoints each-band two) leaf)

@@ -1,18 +1,21 @@
 -- Two leaves and the node above them: its answer from their two windows, and the stretch that is then solved.
-use mathlib.Core.Path.{_≡_, refl, sym, ap₂, _∙_}
+use mathlib.Core.Path.{_≡_, refl, sym, ap, ap₂, _∙_}
 use mathlib.Core.Bool.{Bool, true, false, cond}
+use mathlib.Core.Logic.{⊎-elim}
 use mathlib.Core.List.{List, [], _∷_}
 use Prim.Native.Nat.{ℕ, zero, suc, _+_, _-_, _^_, _≤_, _<_, min, max}
 use native.Mathlib.Omega.{arith}
-use lib.IntN.{ℤ, pos}
-use lib.ListN.{length, getD, take, drop}
+use lib.IntN.{ℤ}
+use lib.ListN.{length, take, drop}
 use borrow.Author.Tests.{le-leb, lt-leb, lt-ltb, le-ltb}
+use Rattle.histogram.proofs.Order.{below-or-not}
 use Rattle.windows.specs.Windows.{Window, meet, join}
 use Rattle.windows.specs.Scratch.{at}
-use Rattle.subtree.specs.Answer.{Answer, slotWindow, slotWindows, combined, answer}
+use Rattle.subtree.specs.Answer.{Answer, slotWindow, combined, answer}
 use Rattle.subtree.specs.Stretch.{places, answerAt, Solved, Planned, above}
-use Rattle.subtree.specs.Pair.{oneWindow, single, SlotEnds, SingleAt, DoubleWritten, SinglesCombined, PairSolved}
+use Rattle.subtree.specs.Pair.{oneWindow, single, SlotEnds, SingleAt, DoubleWritten, SinglesCombined, LeavesWritten, PairSolved}
 use Rattle.subtree.proofs.Places.{planned}
+use Rattle.subtree.proofs.Slots.{windowsFor, windowOf, two-slots, first-two, last-two}
 use Rattle.subtree.proofs.LeafAnswers.{leaf-is}
 use Rattle.subtree.proofs.Solving.{count-of, answer-same, answer-shifted}
 
@@ -58,29 +61,46 @@ module _ (numbers left-low left-high right-low right-high low high : ℕ) (low-i
     left-lower apart lower written = record { answer-is = written .answer-is ∙ left-first apart lower; behind-same = written .behind-same }
 
 -- an answer of one window stays while the places that it stands at do
-still-single : (place low high : ℕ) (before written after : List ℤ) → SingleAt place 0 low high before written
+still-answer : (place low high : ℕ) (written after : List ℤ) → answerAt (at written) place ≡ single 0 low high
     → ((other : ℕ) → place ≤ other → other < place + 4 → at after other ≡ at written other) → answerAt (at after) place ≡ single 0 low high
-still-single place low high before written after of-window same =
-    let one : at written (place + 1) ≤ 1 = omega (arith, count-of (at written) place (single 0 low high) (of-window .answer-is)) in
-    sym (answer-same (at written) (at after) place 1 one (λ other above below. sym (same other above (omega arith)))) ∙ of-window .answer-is
+still-answer place low high written after is same =
+    let one : at written (place + 1) ≤ 1 = omega (arith, count-of (at written) place (single 0 low high) is) in
+    sym (answer-same (at written) (at after) place 1 one (λ other above below. sym (same other above (omega arith)))) ∙ is
 
-pub pair-solved : (band : ℕ) (left right : ℤ) (left-low left-high right-low right-high : ℕ) (before first second after : List ℤ)
-    → SlotEnds band left left-low left-high → SlotEnds band right right-low right-high
-    → SingleAt 6 0 left-low left-high before first → SingleAt 10 0 right-low right-high first second → SinglesCombined 0 left-low left-high right-low right-high second after
-    → PairSolved (slotWindow band left) (slotWindow band right) after
+-- two answers of one window, the second behind the first
+pub both-written : (left-low left-high right-low right-high : ℕ) (before first after : List ℤ) → SingleAt 6 0 left-low left-high before first → SingleAt 10 0 right-low right-high first after
+    → LeavesWritten left-low left-high right-low right-high after
+both-written left-low left-high right-low right-high before first after of-left of-right = record {
+  left-is = λ _. still-answer 6 left-low left-high first after (of-left .answer-is) (λ other above below. of-right .before-same other below);
+  right-is = λ _. of-right .answer-is;
+}
+
+-- of two windows that meet nothing is to be written
+pub none-written : (left-low left-high right-low right-high : ℕ) (after : List ℤ) → max left-low right-low ≤ min left-high right-high
+    → LeavesWritten left-low left-high right-low right-high after
+none-written left-low left-high right-low right-high after met = record { left-is = λ apart. absurd (omega arith); right-is = λ apart. absurd (omega arith) }
+
+pub pair-solved : (left-band right-band : ℕ) (left right : ℤ) (left-low left-high right-low right-high : ℕ) (before after : List ℤ)
+    → SlotEnds left-band left left-low left-high → SlotEnds right-band right right-low right-high
+    → LeavesWritten left-low left-high right-low right-high before → SinglesCombined 0 left-low left-high right-low right-high before after
+    → PairSolved (slotWindow left-band left) (slotWindow right-band right) after
 unfolding Solved answer places
-pair-solved band left right left-low left-high right-low right-high before first second after left-ends right-ends of-left of-right of-both =
-    let left-is = leaf-is band left left-low left-high left-ends in
-    let right-is = leaf-is band right right-low right-high right-ends in
+pair-solved left-band right-band left right left-low left-high right-low right-high before after left-ends right-ends of-leaves of-both =
+    let left-is = leaf-is left-band left left-low left-high left-ends in
+    let right-is = leaf-is right-band right right-low right-high right-ends in
+    let node-is = ap₂ combined left-is right-is in
     record {
       all-solved = (
-        of-both .answer-is ∙ ap₂ combined left-is right-is,
-        λ some. (
-          answer-shifted (at after) 6
-              ∙ still-single 6 left-low left-high before first after of-left (λ other above below. of-both .behind-same other above ∙ of-right .before-same other below) ∙ left-is,
-          answer-shifted (at after) 10
-              ∙ still-single 10 right-low right-high first second after of-right (λ other above below. of-both .behind-same other (omega arith)) ∙ right-is,
-        ),
+        of-both .answer-is ∙ node-is,
+        λ some.
+            let apart : min left-high right-high < max left-low right-low =
+            ⊎-elim
+            (λ below. below)
+            (λ met. absurd (omega (arith, ap (λ (one : Answer). one .number) (both-met 0 left-low left-high right-low right-high _ _ refl refl met ∙ node-is))))
+            (below-or-not (min left-high right-high) (max left-low right-low)) in (
+              answer-shifted (at after) 6 ∙ still-answer 6 left-low left-high before after (of-leaves .left-is apart) (λ other above below. of-both .behind-same other above) ∙ left-is,
+              answer-shifted (at after) 10 ∙ still-answer 10 right-low right-high before after (of-leaves .right-is apart) (λ other above below. of-both .behind-same other (omega arith)) ∙ right-is,
+            ),
       );
     }
 
@@ -91,16 +111,23 @@ pair-places zero two few = absurd (omega arith)
 pair-places (suc zero) two few = refl
 pair-places (suc (suc height)) two few = absurd (omega arith)
 
-pub pair-whole : (band height : ℕ) (setpoints after : List ℤ) → height ≤ 1 → 2 ≤ length setpoints → length setpoints ≤ 2 ^ height
-    → PairSolved (slotWindow band (getD setpoints 0 (pos 0))) (slotWindow band (getD setpoints 1 (pos 0))) after → Solved height (slotWindows band setpoints) (at after)
-pair-whole band zero setpoints after few two slots pair = absurd (omega arith)
-pair-whole band (suc zero) [] after few two slots pair = absurd (omega arith)
-pair-whole band (suc zero) (left ∷ []) after few two slots pair = absurd (omega arith)
-pair-whole band (suc zero) (left ∷ right ∷ []) after few two slots pair = pair .all-solved
-pair-whole band (suc zero) (left ∷ right ∷ more ∷ others) after few two slots pair = absurd (omega arith)
-pair-whole band (suc (suc height)) setpoints after few two slots pair = absurd (omega arith)
+module _ (margin : ℕ) (bands : List ℕ) (setpoints after : List ℤ) (each-band : length bands ≡ length setpoints) where
+  -- two slots of them, as a pair
+  abbrev PairAt : (first second : ℕ) → Type 0
+  PairAt first second = PairSolved (windowOf margin bands setpoints first) (windowOf margin bands setpoints second) after
 
--- ---- a pair and what there is of a second one, below a node of four leaves
+  pub pair-whole : (height : ℕ) → height ≤ 1 → 2 ≤ length setpoints → length setpoints ≤ 2 ^ height → PairAt 0 1 → Solved height (windowsFor margin bands setpoints) (at after)
+  pair-whole zero few two slots pair = absurd (omega arith)
+  pair-whole (suc zero) few two slots pair = rw (two-slots margin bands setpoints each-band (omega arith)) (pair .all-solved)
+  pair-whole (suc (suc height)) few two slots pair = absurd (omega arith)
+
+  -- below a node of four leaves: the first pair
+  pub first-solved : 2 ≤ length setpoints → PairAt 0 1 → Solved 1 (take 2 (windowsFor margin bands setpoints)) (at after)
+  first-solved two pair = rw (first-two margin bands setpoints each-band two) (pair .all-solved)
+
+  -- the second one, where it is whole
+  pub second-solved : length setpoints ≡ 4 → PairAt 2 3 → Solved 1 (drop 2 (windowsFor margin bands setpoints)) (at after)
+  second-solved four pair = rw (last-two margin bands setpoints each-band four) (pair .all-solved)
 
 pub four-places : places 2 ≡ 38
 unfolding places
@@ -109,18 +136,3 @@ four-places = refl
 pub four-planned : Planned 2 2 10 24 38
 unfolding places
 four-planned = planned 2 2 14 (omega arith) (omega arith) refl refl
-
-module _ (band : ℕ) where
-  -- the first pair
-  pub first-solved : (setpoints left : List ℤ) → 2 ≤ length setpoints
-      → PairSolved (slotWindow band (getD setpoints 0 (pos 0))) (slotWindow band (getD setpoints 1 (pos 0))) left → Solved 1 (take 2 (slotWindows band setpoints)) (at left)
-  first-solved [] left two pair = absurd (omega arith)
-  first-solved (a ∷ []) left two pair = absurd (omega arith)
-  first-solved (a ∷ b ∷ others) left two pair = pair .all-solved
-
-  -- the second one, where it is whole
-  pub second-solved : (setpoints right : List ℤ) → length setpoints ≡ 4
-      → PairSolved (slotWindow band (getD setpoints 2 (pos 0))) (slotWindow band (getD setpoints 3 (pos 0))) right → Solved 1 (drop 2 (slotWindows band setpoints)) (at right)
-  second-solved [] right four pair = absurd (omega arith)
-  second-solved (a ∷ []) right four pair = absurd (omega arith)
-  second-solved (a ∷ b ∷ others) right four pair = pair-whole band 1 others right (omega arith) (omega arith) (omega arith) pair

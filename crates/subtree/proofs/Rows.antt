@@ -10,11 +10,11 @@ use native.Mathlib.Omega.{arith}
 use lib.Dec.{T, leb}
 use borrow.Author.Tests.{leb-true, leb-false, le-leb, lt-leb}
 use lib.IntN.{ℤ}
-use lib.ListN.{length, getD, take, drop, length-map, List·getD-eq-default}
+use lib.ListN.{length, getD, take, drop, List·getD-eq-default}
 use lib.Seq.{getD-drop, getD-take}
 use mir.Facts.{and-yes}
 use Rattle.histogram.specs.Tree.{height, padded}
-use Rattle.histogram.specs.Errors.{slotsOf, setpointOf}
+use Rattle.histogram.specs.Errors.{slotsOf, setpointOf, slotBand}
 use Rattle.histogram.proofs.Order.{below-or-not}
 use Rattle.fewest.specs.Tree.{binary}
 use Rattle.fewest.specs.Cost.{cost, fewest}
@@ -25,9 +25,9 @@ use Rattle.claims.specs.Inner.{lifted, distance, accepts, fewestTerms, InRange}
 use Rattle.claims.proofs.Lifted.{lifted-within}
 use Rattle.windows.specs.Windows.{Window, inside, covers, Sorted, meet}
 use Rattle.windows.proofs.Sets.{covers-meet, covers-join, first-within, first-inside, sorted-meet}
-use Rattle.subtree.specs.Answer.{Answer, slotWindow, slotWindows, everyValue, combinedBy, combined, answer, needed, termsFor}
+use Rattle.subtree.specs.Answer.{Answer, slotWindows, everyValue, combinedBy, combined, answer, needed, termsFor}
 use Rattle.subtree.specs.Stretch.{Within, Usable}
-use Rattle.subtree.proofs.Slots.{window-at, windows-usable}
+use Rattle.subtree.proofs.Slots.{length-windows, window-at, windows-usable}
 use Rattle.subtree.proofs.Answers.{apart, usable-take, usable-drop, answer-sorted}
 
 -- the windows of the leaves below a node of a height: each holds what its leaf accepts
@@ -119,33 +119,35 @@ module _ (accept : ℕ → ℕ → Bool) where
   needed-is-fewest height usable below rest within = sym (row-needs (answer-row height 1 usable below) rest within)
 
 -- the leaves over a profile accept what is in the windows of its slots, and filler every value
-pub slots-below : (profile : List ℤ) (band : ℕ) → Within profile → Below (accepts profile band) (height (length profile)) 1 (slotWindows band profile)
-slots-below profile band within = record {
+pub slots-below : (profile : List ℤ) (bands : List ℕ) → length bands ≡ length profile → Within profile → Below (accepts profile bands) (height (length profile)) 1 (slotWindows bands profile)
+slots-below profile bands each-band within = record {
   each = λ slot inside-tree value value-within.
       let here : 1 * 2 ^ height (length profile) + slot - padded (length profile) ≡ slot = omega arith in
       rw here (accepted slot value value-within);
 }
   where
-    windows-long : length (slotWindows band profile) ≡ length profile
-    windows-long = length-map profile (slotWindow band)
-
     accepted : (slot value : ℕ) → value ≤ 40000
-        → (leb (slotsOf profile) slot || leb (distance (lifted (setpointOf profile slot)) value) band) ≡ inside (getD (slotWindows band profile) slot everyValue) value
+        → (leb (slotsOf profile) slot || leb (distance (lifted (setpointOf profile slot)) value) (slotBand bands slot)) ≡ inside (getD (slotWindows bands profile) slot everyValue) value
     accepted slot value value-within =
         ⊎-elim
         (λ counts.
-        rw (lt-leb (slotsOf profile) slot counts, window-at band profile slot counts)
-        (near-is-inside band (lifted (setpointOf profile slot)) value (lifted-within (setpointOf profile slot) (within .each slot)) value-within))
+        rw (lt-leb (slotsOf profile) slot counts, window-at bands profile each-band slot counts)
+        (near-is-inside (slotBand bands slot) (lifted (setpointOf profile slot)) value (lifted-within (setpointOf profile slot) (within .each slot)) value-within))
         (λ past.
-        rw (le-leb (slotsOf profile) slot past, List·getD-eq-default (slotWindows band profile) everyValue {n = slot} (omega (arith, windows-long)), le-leb 0 value (omega arith), le-leb value 40000 value-within))
+        rw (
+          le-leb (slotsOf profile) slot past,
+          List·getD-eq-default (slotWindows bands profile) everyValue {n = slot} (omega (arith, length-windows bands profile each-band)),
+          le-leb 0 value (omega arith),
+          le-leb value 40000 value-within,
+        ))
         (below-or-not slot (slotsOf profile))
 
--- so the terms that the tree over a profile needs for a band are the fewest terms
+-- so the terms that the tree over a profile needs for its bands are the fewest terms
 module _ {profile : List ℤ} {rest : ℤ} (in-range : InRange profile rest) where
   pub profile-within : Within profile
   profile-within = record { each = in-range .setpoints-within }
 
-  pub profile-needs : (band : ℕ) → termsFor band (height (length profile)) profile (lifted rest) ≡ fewestTerms profile rest band
-  profile-needs band =
-      needed-is-fewest (accepts profile band) (height (length profile)) (windows-usable band profile-within) (slots-below profile band profile-within) (lifted rest)
+  pub profile-needs : (bands : List ℕ) → length bands ≡ length profile → termsFor bands (height (length profile)) profile (lifted rest) ≡ fewestTerms profile rest bands
+  profile-needs bands each-band =
+      needed-is-fewest (accepts profile bands) (height (length profile)) (windows-usable bands profile-within) (slots-below profile bands each-band profile-within) (lifted rest)
       (lifted-within rest (in-range .rest-within))

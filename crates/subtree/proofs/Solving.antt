@@ -4,14 +4,15 @@ use mathlib.Core.List.{List}
 use Prim.Native.Nat.{ℕ, zero, suc, _+_, _*_, _-_, _^_, _≤_, _<_, min}
 use native.Mathlib.Omega.{arith}
 use lib.IntN.{ℤ}
-use lib.ListN.{length, take, drop, length-take}
+use lib.ListN.{length, take, drop, length-take, length-drop}
+use lib.Seq.{getD-take, getD-drop}
 use lib.Pow.{pow-mono}
 use borrow.Rule.Slice.PartMut.{putMid, mid-len, same-len-mid}
 use Rattle.windows.specs.Windows.{Window, Sorted}
 use Rattle.windows.specs.Scratch.{at, windowsAt}
 use Rattle.windows.proofs.Reading.{windows-same, windows-shifted, windows-length}
 use Rattle.subtree.specs.Answer.{Answer, combined, answer}
-use Rattle.subtree.specs.Stretch.{ownPlaces, places, answerAt, Solved, Halves, Usable, Solvable, Planned, Combinable, CombinedAt}
+use Rattle.subtree.specs.Stretch.{ownPlaces, places, answerAt, Solved, Halves, Usable, Over, Solvable, Planned, Combinable, CombinedAt}
 use Rattle.subtree.proofs.Places.{places-above, own-first}
 use Rattle.subtree.proofs.Lent.{in-part, before-part}
 use Rattle.subtree.proofs.Answers.{Bounded, answer-bounded, answer-sorted, within-take, within-drop, usable-take, usable-drop}
@@ -187,24 +188,42 @@ module _ {height left right : ℕ} {leaves : List Window} {before scratch : List
       combinable (height - 1) left right leaves scratch (solved .both) usable own-first-place (of-node .middle-is)
       (omega (arith, of-node .end-is, of-node .all-places, solved .same-length)) (omega (arith, of-node .end-is, of-node .few-places)) (omega arith)
 
--- what solving asks of each half, where the setpoints are cut at the left child's or at their end
-module _ (band height half own middle end cut : ℕ) (setpoints scratch : List ℤ) (planned : Planned height half own middle end) (solvable : Solvable band height setpoints scratch)
-    (cut-is : cut ≡ min half (length setpoints)) where
-  pub left-solvable : Solvable band (height - 1) (take cut setpoints) (take (middle - own) (drop own scratch))
+-- a margin that can be taken off all bands can be taken off those of a part
+module _ {margin : ℕ} {bands : List ℕ} (over : Over margin bands) (count : ℕ) where
+  over-take : Over margin (take count bands)
+  over-take = record {
+    each = λ slot inside.
+        let within = length-take count bands in
+        omega (arith, getD-take count bands slot 0 (omega arith), over .each slot (omega arith));
+  }
+
+  over-drop : Over margin (drop count bands)
+  over-drop = record {
+    each = λ slot inside.
+        let within = length-drop count bands in
+        omega (arith, getD-drop count bands slot 0, over .each (count + slot) (omega arith));
+  }
+
+-- what solving asks of each half, where the setpoints and their bands are cut at the left child's or at their end
+module _ (margin height half own middle end cut : ℕ) (setpoints : List ℤ) (bands : List ℕ) (scratch : List ℤ) (planned : Planned height half own middle end)
+    (solvable : Solvable margin height setpoints bands scratch) (cut-is : cut ≡ min half (length setpoints)) where
+  pub left-solvable : Solvable margin (height - 1) (take cut setpoints) (take cut bands) (take (middle - own) (drop own scratch))
   left-solvable = record {
     few-slots = omega (arith, length-take cut setpoints, planned .half-is);
     setpoints-within = within-take (solvable .setpoints-within) cut;
-    band-within = solvable .band-within;
+    each-band = omega (arith, length-take cut setpoints, length-take cut bands, solvable .each-band);
+    bands-over = over-take (solvable .bands-over) cut;
     in-tree = omega (arith, solvable .in-tree);
     room = omega (arith, mid-len own middle scratch (omega (arith, solvable .room, planned .all-places, planned .end-is)), planned .middle-is);
   }
 
   pub right-solvable : (all : ℕ) → all ≡ length setpoints → (later : List ℤ) → length later ≡ length scratch
-      → Solvable band (height - 1) (take (all - cut) (drop cut setpoints)) (take (end - middle) (drop middle later))
+      → Solvable margin (height - 1) (take (all - cut) (drop cut setpoints)) (take (all - cut) (drop cut bands)) (take (end - middle) (drop middle later))
   right-solvable all all-are later same-length = record {
     few-slots = omega (arith, mid-len cut all setpoints (omega arith), solvable .few-slots, planned .both-halves, planned .half-is);
     setpoints-within = within-take (within-drop (solvable .setpoints-within) cut) (all - cut);
-    band-within = solvable .band-within;
+    each-band = omega (arith, mid-len cut all setpoints (omega arith), mid-len cut all bands (omega (arith, solvable .each-band)));
+    bands-over = over-take (over-drop (solvable .bands-over) cut) (all - cut);
     in-tree = omega (arith, solvable .in-tree);
     room = omega (arith, mid-len middle end later (omega (arith, solvable .room, planned .all-places)), planned .end-is);
   }

@@ -1,6 +1,6 @@
 -- The bottom-up pass of document 000, section 6.1: a node's answer from the answers of its two children. A reader of the promises need not open this file.
 -- `proofs/Rows.antt` shows that an answer is what the theory of fewest terms says of its node: `answer-row`.
-use mathlib.Core.List.{List, [], _∷_, map}
+use mathlib.Core.List.{List, [], _∷_}
 use Prim.Native.Nat.{ℕ, zero, suc, _+_, _-_, _^_, min}
 use lib.IntN.{ℤ}
 use lib.ListN.{getD, take, drop}
@@ -17,9 +17,11 @@ pub record Answer : Type 0 where
 abbrev pub slotWindow : ℕ → ℤ → Window
 slotWindow band setpoint = record { low = lifted setpoint - band; high = min (lifted setpoint + band) 40000 }
 
--- how slots enter the bottom-up pass: by their windows, one after the other
-abbrev pub slotWindows : ℕ → List ℤ → List Window
-slotWindows band setpoints = map (slotWindow band) setpoints
+-- how slots enter the bottom-up pass: by their windows, one after the other, each by the slot's own band or the common one
+abbrev pub slotWindows : List ℕ → List ℤ → List Window
+slotWindows [] setpoints = []
+slotWindows (band ∷ bands) [] = []
+slotWindows (band ∷ bands) (setpoint ∷ setpoints) = slotWindow band setpoint ∷ slotWindows bands setpoints
 
 -- every value: the window of a filler leaf
 abbrev pub everyValue : Window
@@ -42,6 +44,6 @@ answer (suc height) leaves = combined (answer height (take (2 ^ height) leaves))
 abbrev pub needed : Answer → ℕ → ℕ
 needed answer value = answer .number + missed (covers (answer .windows) value)
 
--- the terms that a tree over setpoints needs for a band, where a value comes in at the root
-abbrev pub termsFor : (band height : ℕ) → List ℤ → (value : ℕ) → ℕ
-termsFor band height setpoints value = needed (answer height (slotWindows band setpoints)) value
+-- the terms that a tree over setpoints needs for their bands, where a value comes in at the root
+abbrev pub termsFor : (bands : List ℕ) → (height : ℕ) → List ℤ → (value : ℕ) → ℕ
+termsFor bands height setpoints value = needed (answer height (slotWindows bands setpoints)) value

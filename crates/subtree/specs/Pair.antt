@@ -2,7 +2,7 @@
 -- Above two leaves the node's answer stands at places 0 to 5 of the stretch, the leaves' answers at 6 to 9 and at 10 to 13.
 use mathlib.Core.Path.{_≡_}
 use mathlib.Core.List.{List, [], _∷_}
-use Prim.Native.Nat.{ℕ, _+_, _≤_, _<_}
+use Prim.Native.Nat.{ℕ, _+_, _≤_, _<_, min, max}
 use lib.IntN.{ℤ}
 use Rattle.windows.specs.Windows.{Window}
 use Rattle.windows.specs.Scratch.{at}
@@ -39,6 +39,11 @@ pub record DoubleWritten (number firstLow firstHigh secondLow secondHigh : ℕ) 
 pub record SinglesCombined (numbers leftLow leftHigh rightLow rightHigh : ℕ) (before after : List ℤ) : Type 0 where
   pub answer-is : answerAt (at after) 0 ≡ above numbers (oneWindow leftLow leftHigh) (oneWindow rightLow rightHigh)
   pub behind-same : (other : ℕ) → 6 ≤ other → at after other ≡ at before other
+
+-- the answers of two leaves whose windows do not meet, at their places
+pub record LeavesWritten (leftLow leftHigh rightLow rightHigh : ℕ) (after : List ℤ) : Type 0 where
+  pub left-is : min leftHigh rightHigh < max leftLow rightLow → answerAt (at after) 6 ≡ single 0 leftLow leftHigh
+  pub right-is : min leftHigh rightHigh < max leftLow rightLow → answerAt (at after) 10 ≡ single 0 rightLow rightHigh
 
 -- the answers of two leaves and of the node above them
 pub record PairSolved (left right : Window) (scratch : List ℤ) : Type 0 where

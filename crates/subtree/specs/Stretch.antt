@@ -5,6 +5,7 @@ use mathlib.Core.List.{List, [], _∷_}
 use Prim.Native.Nat.{ℕ, zero, suc, _+_, _*_, _-_, _^_, _≤_, _<_}
 use lib.IntN.{ℤ, pos, natAbs}
 use lib.ListN.{length, getD, take, drop}
+use Rattle.histogram.specs.Errors.{slotBand}
 use Rattle.windows.specs.Windows.{Window, Sorted}
 use Rattle.windows.specs.Scratch.{at, windowsAt}
 use Rattle.subtree.specs.Answer.{Answer, everyValue, combined, answer, needed}
@@ -44,11 +45,16 @@ pub record Usable (leaves : List Window) : Type 0 where
 pub record Within (setpoints : List ℤ) : Type 0 where
   pub each : (slot : ℕ) → natAbs (getD setpoints slot (pos 0)) ≤ 20000
 
--- no more setpoints than the subtree has leaves, a band, and a stretch for the subtree
-pub record Solvable (band height : ℕ) (setpoints scratch : List ℤ) : Type 0 where
+-- bands that a margin can be taken off
+pub record Over (margin : ℕ) (bands : List ℕ) : Type 0 where
+  pub each : (slot : ℕ) → slot < length bands → margin ≤ slotBand bands slot
+
+-- no more setpoints than the subtree has leaves, as many bands with a margin to take off, and a stretch for the subtree
+pub record Solvable (margin height : ℕ) (setpoints : List ℤ) (bands : List ℕ) (scratch : List ℤ) : Type 0 where
   pub few-slots : length setpoints ≤ 2 ^ height
   pub setpoints-within : Within setpoints
-  pub band-within : band ≤ 40000
+  pub each-band : length bands ≡ length setpoints
+  pub bands-over : Over margin bands
   pub in-tree : height ≤ 9
   pub room : places height ≤ length scratch
 

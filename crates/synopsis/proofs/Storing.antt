@@ -1,16 +1,12 @@
--- A loop that stores one element after another lays a list: of the terms that it pairs, or of the nodes and the values that it takes apart.
+-- A loop that stores one element after another lays a list: of the pairs that it puts together, or of the parts that it takes of them.
 use mathlib.Core.Path.{_≡_, refl, sym, ap, ap₂, _∙_}
 use mathlib.Core.List.{List, [], _∷_, map}
 use Prim.Native.Nat.{ℕ, zero, suc, _<_, _≤_}
 use native.Mathlib.Omega.{arith}
-use lib.IntN.{ℤ, pos}
 use lib.ListN.{length, getD, take, set, length-set, length-map, List·getD-map}
 use lib.Seq.{take-suc, length-take-le}
 use Rattle.limits.specs.Answers.{laid}
 use Rattle.limits.proofs.Laying.{laid-more}
-use Rattle.histogram.specs.declared.Term.{Term}
-use Rattle.histogram.specs.Terms.{paired}
-use Rattle.synopsis.specs.Inner.{zeroTerm, termAt}
 
 module _ {A : Type 0} where
   -- a list over whose first n places the elements of a sequence were stored
@@ -33,49 +29,72 @@ module _ {A : Type 0} where
       ∙ laid-more (take n source) before (getD source n d) (omega arith)
       ∙ ap (λ (l : List A). laid l before) (sym (take-suc source n d (omega arith)))
 
--- the term made of the node and the value at a place
-abbrev pub termOf : List ℕ → List ℤ → ℕ → Term
-termOf nodes values place = record { node = getD nodes place 0; value = getD values place (pos 0) }
+-- pairs made of two lists, as long as both have an element
+module _ {A B D : Type 0} (make : A → B → D) where
+  abbrev pub zipped : List A → List B → List D
+  zipped [] seconds = []
+  zipped (first ∷ firsts) [] = []
+  zipped (first ∷ firsts) (second ∷ seconds) = make first second ∷ zipped firsts seconds
 
-term-paired : (nodes : List ℕ) (values : List ℤ) (k : ℕ) → k < length nodes → k < length values → termOf nodes values k ≡ getD (paired nodes values) k zeroTerm
-unfolding paired
-term-paired [] values k below below′ = absurd (omega arith)
-term-paired (node ∷ nodes) [] k below below′ = absurd (omega arith)
-term-paired (node ∷ nodes) (value ∷ values) zero below below′ = refl
-term-paired (node ∷ nodes) (value ∷ values) (suc k) below below′ = term-paired nodes values k (omega arith) (omega arith)
+  -- the pair at a place
+  zipped-at : (firsts : List A) (seconds : List B) (a : A) (b : B) (d : D) (k : ℕ) → k < length firsts → k < length seconds → make (getD firsts k a) (getD seconds k b) ≡ getD (zipped firsts seconds) k d
+  zipped-at [] seconds a b d k below below′ = absurd (omega arith)
+  zipped-at (first ∷ firsts) [] a b d k below below′ = absurd (omega arith)
+  zipped-at (first ∷ firsts) (second ∷ seconds) a b d zero below below′ = refl
+  zipped-at (first ∷ firsts) (second ∷ seconds) a b d (suc k) below below′ = zipped-at firsts seconds a b d k (omega arith) (omega arith)
 
-take-paired : (n : ℕ) (nodes : List ℕ) (values : List ℤ) → take n (paired nodes values) ≡ paired (take n nodes) (take n values)
-unfolding paired
-take-paired zero nodes values = refl
-take-paired (suc n) [] values = refl
-take-paired (suc n) (node ∷ nodes) [] = refl
-take-paired (suc n) (node ∷ nodes) (value ∷ values) = ap (λ (l : List Term). record { node = node; value = value } ∷ l) (take-paired n nodes values)
+  take-zipped : (n : ℕ) (firsts : List A) (seconds : List B) → take n (zipped firsts seconds) ≡ zipped (take n firsts) (take n seconds)
+  take-zipped zero firsts seconds = refl
+  take-zipped (suc n) [] seconds = refl
+  take-zipped (suc n) (first ∷ firsts) [] = refl
+  take-zipped (suc n) (first ∷ firsts) (second ∷ seconds) = ap (λ (l : List D). make first second ∷ l) (take-zipped n firsts seconds)
 
-as-many-paired : (n : ℕ) (nodes : List ℕ) (values : List ℤ) → n ≤ length nodes → n ≤ length values → n ≤ length (paired nodes values)
-unfolding paired
-as-many-paired zero nodes values in-nodes in-values = omega arith
-as-many-paired (suc n) [] values in-nodes in-values = absurd (omega arith)
-as-many-paired (suc n) (node ∷ nodes) [] in-nodes in-values = absurd (omega arith)
-as-many-paired (suc n) (node ∷ nodes) (value ∷ values) in-nodes in-values =
-    let fewer : n ≤ length (paired nodes values) = as-many-paired n nodes values (omega arith) (omega arith) in
-    omega arith
+  as-many-zipped : (n : ℕ) (firsts : List A) (seconds : List B) → n ≤ length firsts → n ≤ length seconds → n ≤ length (zipped firsts seconds)
+  as-many-zipped zero firsts seconds in-firsts in-seconds = omega arith
+  as-many-zipped (suc n) [] seconds in-firsts in-seconds = absurd (omega arith)
+  as-many-zipped (suc n) (first ∷ firsts) [] in-firsts in-seconds = absurd (omega arith)
+  as-many-zipped (suc n) (first ∷ firsts) (second ∷ seconds) in-firsts in-seconds =
+      let fewer : n ≤ length (zipped firsts seconds) = as-many-zipped n firsts seconds (omega arith) (omega arith) in
+      omega arith
 
--- the terms of n nodes and values, stored one by one
-pub paired-laid : (nodes : List ℕ) (values : List ℤ) (before : List Term) (n : ℕ) → n ≤ length nodes → n ≤ length values → n ≤ length before
-    → stored (termOf nodes values) before n ≡ laid (paired (take n nodes) (take n values)) before
-paired-laid nodes values before n in-nodes in-values in-terms =
-    stored-laid (termOf nodes values) (paired nodes values) before zeroTerm n (λ k less. term-paired nodes values k (omega arith) (omega arith)) (as-many-paired n nodes values in-nodes in-values) in-terms
-    ∙ ap (λ (l : List Term). laid l before) (take-paired n nodes values)
+  -- the pairs of n firsts and seconds, stored one by one
+  pub zipped-laid : (firsts : List A) (seconds : List B) (a : A) (b : B) (d : D) (before : List D) (n : ℕ) → n ≤ length firsts → n ≤ length seconds → n ≤ length before
+      → stored (λ (k : ℕ). make (getD firsts k a) (getD seconds k b)) before n ≡ laid (zipped (take n firsts) (take n seconds)) before
+  zipped-laid firsts seconds a b d before n in-firsts in-seconds in-before =
+      stored-laid (λ (k : ℕ). make (getD firsts k a) (getD seconds k b)) (zipped firsts seconds) before d n (λ k less. zipped-at firsts seconds a b d k (omega arith) (omega arith)) (as-many-zipped n firsts seconds in-firsts in-seconds) in-before
+      ∙ ap (λ (l : List D). laid l before) (take-zipped n firsts seconds)
 
-module _ {A : Type 0} (part : Term → A) where
-  take-parts : (n : ℕ) (terms : List Term) → take n (map part terms) ≡ map part (take n terms)
-  take-parts zero terms = refl
+  -- pairs taken apart and put together again
+  pub zipped-again : (first : D → A) (second : D → B) → ((d : D) → make (first d) (second d) ≡ d) → (pairs : List D) → zipped (map first pairs) (map second pairs) ≡ pairs
+  zipped-again first second again [] = refl
+  zipped-again first second again (pair ∷ pairs) = ap₂ (λ (d : D) (l : List D). d ∷ l) (again pair) (zipped-again first second again pairs)
+
+  -- no more pairs than firsts, or than seconds
+  pub zipped-firsts : (n : ℕ) (firsts : List A) (seconds : List B) → length (zipped (take n firsts) (take n seconds)) ≤ length firsts
+  zipped-firsts zero firsts seconds = omega arith
+  zipped-firsts (suc n) [] seconds = omega arith
+  zipped-firsts (suc n) (first ∷ firsts) [] = omega arith
+  zipped-firsts (suc n) (first ∷ firsts) (second ∷ seconds) =
+      let fewer : length (zipped (take n firsts) (take n seconds)) ≤ length firsts = zipped-firsts n firsts seconds in
+      omega arith
+
+  pub zipped-seconds : (n : ℕ) (firsts : List A) (seconds : List B) → length (zipped (take n firsts) (take n seconds)) ≤ length seconds
+  zipped-seconds zero firsts seconds = omega arith
+  zipped-seconds (suc n) [] seconds = omega arith
+  zipped-seconds (suc n) (first ∷ firsts) [] = omega arith
+  zipped-seconds (suc n) (first ∷ firsts) (second ∷ seconds) =
+      let fewer : length (zipped (take n firsts) (take n seconds)) ≤ length seconds = zipped-seconds n firsts seconds in
+      omega arith
+
+module _ {A D : Type 0} (part : D → A) where
+  take-parts : (n : ℕ) (pairs : List D) → take n (map part pairs) ≡ map part (take n pairs)
+  take-parts zero pairs = refl
   take-parts (suc n) [] = refl
-  take-parts (suc n) (term ∷ terms) = ap (λ (l : List A). part term ∷ l) (take-parts n terms)
+  take-parts (suc n) (pair ∷ pairs) = ap (λ (l : List A). part pair ∷ l) (take-parts n pairs)
 
-  -- the nodes or the values of n terms, stored one by one
-  pub parts-laid : (terms : List Term) (before : List A) (n : ℕ) → n ≤ length terms → n ≤ length before
-      → stored (λ (k : ℕ). part (termAt terms k)) before n ≡ laid (map part (take n terms)) before
-  parts-laid terms before n in-terms in-before =
-      stored-laid (λ (k : ℕ). part (termAt terms k)) (map part terms) before (part zeroTerm) n (λ k less. sym (List·getD-map part terms k zeroTerm)) (omega (arith, length-map terms part)) in-before
-      ∙ ap (λ (l : List A). laid l before) (take-parts n terms)
+  -- one part of each of n pairs, stored one by one
+  pub parts-laid : (pairs : List D) (d : D) (before : List A) (n : ℕ) → n ≤ length pairs → n ≤ length before
+      → stored (λ (k : ℕ). part (getD pairs k d)) before n ≡ laid (map part (take n pairs)) before
+  parts-laid pairs d before n in-pairs in-before =
+      stored-laid (λ (k : ℕ). part (getD pairs k d)) (map part pairs) before (part d) n (λ k less. sym (List·getD-map part pairs k d)) (omega (arith, length-map pairs part)) in-before
+      ∙ ap (λ (l : List A). laid l before) (take-parts n pairs)

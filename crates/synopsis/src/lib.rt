@@ -1,98 +1,27 @@
-// The library's calls on slices of terms.
-// A function that has such a slice is proved by a walk of its MIR, by hand; each takes the terms apart, or puts them together, around one that is covered.
+// The library's calls on slices of terms and of special slots.
+// A function that has such a slice is proved by a walk of its MIR, by hand; each takes the list apart, or puts it together, around one that is covered.
+mod parts;
+
+use crate::parts::Parts;
+use crate::parts::SpecialParts;
+use crate::parts::put_specials_together;
+use crate::parts::put_together;
+use crate::parts::take_apart;
+use crate::parts::take_specials_apart;
+use bands::SpecialSlot;
 use build::BuildAnswer;
 use histogram::Term;
 use histogram::restore::SlotAnswer;
 use limits::smaller;
+use profile::TextAnswer;
 use record_read::HeaderAnswer;
 use record_write::WriteAnswer;
-ghost use mathlib.Core.Path.{_≡_};
-ghost use Prim.Native.Nat.{_<_};
-ghost use lib.ListN.{length, set, take};
-ghost use Rattle.limits.specs.Answers.{laid};
+ghost use lib.ListN.{length, take};
 ghost use Rattle.histogram.specs.Restoring.{SlotRestored, ProfileRestored};
 ghost use Rattle.record_write.specs.Writing.{RecordWritten};
 ghost use Rattle.build.specs.Building.{Built};
-ghost use Rattle.synopsis.specs.Answers.{TermsRead, TermsHanded};
-ghost use Rattle.synopsis.specs.Inner.{termAt, InRoom, PartsOf, FitTogether, termsOf, BuiltInRoom, forPlaces, ReadInRoom};
-
-// One term, copied out of a slice.
-fn term_out(terms: &[Term], place: usize) -> Term
-    requires { ⌜ place < length (now terms) ⌝ }
-    ensures { λ r. ⌜ r ≡ termAt (now (terms .entry)) place ⌝ }
-{
-    terms[place]
-}
-
-// One term, copied into a slice.
-fn term_in(terms: &mut [Term], place: usize, term: Term)
-    requires { ⌜ place < length (now terms) ⌝ }
-    ensures { λ _. ⌜ now (terms .exit) ≡ set (now (terms .entry)) place term ⌝ }
-{
-    terms[place] = term;
-}
-
-// Terms taken apart, in room for one more than a valid list can have: the first `count` nodes and values.
-struct Parts {
-    pub count: usize,
-    pub nodes: [u16; 1024],
-    pub values: [i16; 1024],
-}
-
-// Room, with no term in it.
-fn empty_room() -> Parts
-    ensures { λ r. ⌜ r .count ≡ 0 ⌝ }
-{
-    Parts {
-        count: 0,
-        nodes: [0u16; 1024],
-        values: [0i16; 1024],
-    }
-}
-
-// Takes a list of terms apart, or its first 1,024: more than 1,023 are valid nowhere.
-fn take_apart(terms: &[Term]) -> Parts
-    ensures { λ r. ⌜ PartsOf (now (terms .entry)) r ⌝ }
-{
-    let count = smaller(terms.len(), 1024);
-    let room = empty_room();
-    let mut nodes = room.nodes;
-    let mut values = room.values;
-    let mut i: usize = 0;
-    while i < count {
-        let term = term_out(terms, i);
-        nodes[i] = term.node;
-        values[i] = term.value;
-        i += 1;
-    }
-    Parts {
-        count: count,
-        nodes: nodes,
-        values: values,
-    }
-}
-
-// Puts terms together, over the front of a slice.
-fn put_together(parts: Parts, terms: &mut [Term])
-    requires { ⌜ FitTogether parts (length (now terms)) ⌝ }
-    ensures { λ _. ⌜ now (terms .exit) ≡ laid (termsOf parts) (now (terms .entry)) ⌝ }
-{
-    let count = parts.count;
-    let nodes = parts.nodes;
-    let values = parts.values;
-    let mut i: usize = 0;
-    while i < count {
-        term_in(
-            terms,
-            i,
-            Term {
-                node: nodes[i],
-                value: values[i],
-            },
-        );
-        i += 1;
-    }
-}
+ghost use Rattle.synopsis.specs.Answers.{TermsRead, TermsHanded, SetpointsRead};
+ghost use Rattle.synopsis.specs.Inner.{InRoom, termsOf, SpecialsInRoom, specialSlotsOf, ReadInRoom, BuiltInRoom, ProfileInRoom};
 
 // The setpoint restored in one slot of a profile of `slots` slots.
 pub fn restore_slot(slots: usize, rest: i32, terms: &[Term], slot: usize) -> SlotAnswer
@@ -132,67 +61,86 @@ fn restore_profile_of_parts(slots: usize, rest: i32, parts: Parts, setpoints: &m
     histogram::restore::restore_profile(slots, rest, &nodes[..count], &values[..count], setpoints)
 }
 
-// Writes the record of a header and terms over the front of `destination`.
+// Writes the record of a header, terms and special slots over the front of `destination`.
 pub fn write_record(
     slots: usize,
     band: i32,
     rest: i32,
     terms: &[Term],
+    specials: &[SpecialSlot],
     destination: &mut [u8],
 ) -> WriteAnswer
-    ensures { λ r. ⌜ RecordWritten slots band rest (now (terms .entry)) r (now (destination .entry)) (now (destination .exit)) ⌝ }
+    ensures { λ r. ⌜ RecordWritten slots band rest (now (terms .entry)) (now (specials .entry)) r (now (destination .entry)) (now (destination .exit)) ⌝ }
 {
     let parts = take_apart(terms);
-    write_record_of_parts(slots, band, rest, parts, destination)
+    let special_parts = take_specials_apart(specials);
+    write_record_of_parts(slots, band, rest, parts, special_parts, destination)
 }
 
-// The same, of terms taken apart.
+// The same, of terms and special slots taken apart.
 fn write_record_of_parts(
     slots: usize,
     band: i32,
     rest: i32,
     parts: Parts,
+    specials: SpecialParts,
     destination: &mut [u8],
 ) -> WriteAnswer
-    requires { ⌜ InRoom parts ⌝ }
-    ensures { λ r. ⌜ RecordWritten slots band rest (termsOf parts) r (now (destination .entry)) (now (destination .exit)) ⌝ }
+    requires { ⌜ InRoom parts × SpecialsInRoom specials ⌝ }
+    ensures { λ r. ⌜ RecordWritten slots band rest (termsOf parts) (specialSlotsOf specials) r (now (destination .entry)) (now (destination .exit)) ⌝ }
 {
     let count = parts.count;
     let nodes = parts.nodes;
     let values = parts.values;
+    let special_count = specials.count;
+    let special_slots = specials.slots;
+    let own_bands = specials.bands;
     record_write::write_record(
         slots,
         band,
         rest,
         &nodes[..count],
         &values[..count],
+        &special_slots[..special_count],
+        &own_bands[..special_count],
         destination,
     )
 }
 
-// Reads a record; its terms are laid over the front of `terms`.
-pub fn read_record(bytes: &[u8], terms: &mut [Term]) -> HeaderAnswer
-    ensures { λ r. ⌜ TermsRead (now (bytes .entry)) r (now (terms .entry)) (now (terms .exit)) ⌝ }
+// Reads a record; its terms are laid over the front of `terms`, its special slots over that of `specials`.
+pub fn read_record(bytes: &[u8], terms: &mut [Term], specials: &mut [SpecialSlot]) -> HeaderAnswer
+    ensures { λ r. ⌜ TermsRead (now (bytes .entry)) r (now (terms .entry)) (now (terms .exit)) (now (specials .entry)) (now (specials .exit)) ⌝ }
 {
-    let read = read_in_room(bytes, terms.len());
+    let read = read_in_room(bytes, terms.len(), specials.len());
     put_together(read.parts, terms);
+    put_specials_together(read.specials, specials);
     read.answer
 }
 
-// A record that was read: the answer, and the terms' parts.
+// A record that was read: the answer, and the parts of its terms and of its special slots.
 struct ReadParts {
     pub answer: HeaderAnswer,
     pub parts: Parts,
+    pub specials: SpecialParts,
 }
 
-// Reads a record for a destination of that many places.
-fn read_in_room(bytes: &[u8], places: usize) -> ReadParts
-    ensures { λ r. ⌜ ReadInRoom (now (bytes .entry)) places (r .answer) (r .parts) ⌝ }
+// Reads a record for destinations of that many terms and special slots.
+fn read_in_room(bytes: &[u8], terms: usize, specials: usize) -> ReadParts
+    ensures { λ r. ⌜ ReadInRoom (now (bytes .entry)) terms specials (r .answer) (r .parts) (r .specials) ⌝ }
 {
     let mut nodes = [0u16; 1024];
     let mut values = [0i16; 1024];
-    let header = record_read::read_into_room(bytes, &mut nodes, &mut values);
-    let answer = for_places(places, header);
+    let limit = smaller(terms, 1024);
+    let mut slots = [0u16; 513];
+    let mut bands = [0u16; 513];
+    let special_limit = smaller(specials, 513);
+    let answer = record_read::read_record(
+        bytes,
+        &mut nodes[..limit],
+        &mut values[..limit],
+        &mut slots[..special_limit],
+        &mut bands[..special_limit],
+    );
     ReadParts {
         answer: answer,
         parts: Parts {
@@ -200,37 +148,28 @@ fn read_in_room(bytes: &[u8], places: usize) -> ReadParts
             nodes: nodes,
             values: values,
         },
+        specials: SpecialParts {
+            count: answer.specials,
+            slots: slots,
+            bands: bands,
+        },
     }
 }
 
-// A record's header, or 6 where it has more terms than places.
-fn for_places(places: usize, header: HeaderAnswer) -> HeaderAnswer
-    ensures { λ r. ⌜ r ≡ forPlaces places header ⌝ }
-{
-    if places < header.count {
-        return HeaderAnswer {
-            refusal: limits::OUTPUT_SHORT,
-            slots: 0,
-            band: 0,
-            rest: 0,
-            count: 0,
-        };
-    }
-    header
-}
-
-// Builds the synopsis with the fewest terms that keeps the band and, among those, the least greatest error; of several such, the first.
+// Builds the synopsis with the fewest terms that keeps the bands and, among those, the greatest least margin; of several such, the first.
 pub fn build(
     setpoints: &[i16],
     rest: i32,
     band: i32,
+    specials: &[SpecialSlot],
     terms: &mut [Term],
     scratch: &mut [i16],
 ) -> BuildAnswer
-    ensures { λ r. ⌜ Built (now (setpoints .entry)) rest band (length (now (terms .entry))) (length (now (scratch .entry))) r (take (r .count) (now (terms .exit)))
+    ensures { λ r. ⌜ Built (now (setpoints .entry)) rest band (now (specials .entry)) (length (now (terms .entry))) (length (now (scratch .entry))) r (take (r .count) (now (terms .exit)))
         × TermsHanded r (now (terms .entry)) (now (terms .exit)) (now (scratch .entry)) (now (scratch .exit)) ⌝ }
 {
-    let built = build_in_room(setpoints, rest, band, terms.len(), scratch);
+    let special_parts = take_specials_apart(specials);
+    let built = build_in_room(setpoints, rest, band, special_parts, terms.len(), scratch);
     put_together(built.parts, terms);
     built.answer
 }
@@ -241,16 +180,21 @@ struct BuiltParts {
     pub parts: Parts,
 }
 
-// Builds for a destination of that many places.
+// Builds for special slots taken apart and a destination of that many places.
 fn build_in_room(
     setpoints: &[i16],
     rest: i32,
     band: i32,
+    specials: SpecialParts,
     places: usize,
     scratch: &mut [i16],
 ) -> BuiltParts
-    ensures { λ r. ⌜ BuiltInRoom (now (setpoints .entry)) rest band places (r .answer) (r .parts) (now (scratch .entry)) (now (scratch .exit)) ⌝ }
+    requires { ⌜ SpecialsInRoom specials ⌝ }
+    ensures { λ r. ⌜ BuiltInRoom (now (setpoints .entry)) rest band (specialSlotsOf specials) places (r .answer) (r .parts) (now (scratch .entry)) (now (scratch .exit)) ⌝ }
 {
+    let special_count = specials.count;
+    let special_slots = specials.slots;
+    let own_bands = specials.bands;
     let mut nodes = [0u16; 1024];
     let mut values = [0i16; 1024];
     let limit = smaller(places, 1024);
@@ -258,6 +202,8 @@ fn build_in_room(
         setpoints,
         rest,
         band,
+        &special_slots[..special_count],
+        &own_bands[..special_count],
         &mut nodes[..limit],
         &mut values[..limit],
         scratch,
@@ -268,6 +214,39 @@ fn build_in_room(
             count: answer.count,
             nodes: nodes,
             values: values,
+        },
+    }
+}
+
+// Reads a profile text; its setpoints are laid over the front of `setpoints`, its special slots over that of `specials`.
+pub fn read_profile(text: &[u8], setpoints: &mut [i16], specials: &mut [SpecialSlot]) -> TextAnswer
+    ensures { λ r. ⌜ SetpointsRead (now (text .entry)) r (now (setpoints .entry)) (now (setpoints .exit)) (now (specials .entry)) (now (specials .exit)) ⌝ }
+{
+    let read = read_profile_in_room(text, specials.len(), setpoints);
+    put_specials_together(read.parts, specials);
+    read.answer
+}
+
+// A profile text that was read: the answer, and the special slots' parts.
+struct ProfileParts {
+    pub answer: TextAnswer,
+    pub parts: SpecialParts,
+}
+
+// Reads a profile text for a destination of that many special slots.
+fn read_profile_in_room(text: &[u8], places: usize, setpoints: &mut [i16]) -> ProfileParts
+    ensures { λ r. ⌜ ProfileInRoom (now (text .entry)) (now (setpoints .entry)) places (r .answer) (r .parts) (now (setpoints .exit)) ⌝ }
+{
+    let mut slots = [0u16; 513];
+    let mut bands = [0u16; 513];
+    let limit = smaller(places, 513);
+    let answer = profile::read_profile(text, setpoints, &mut slots[..limit], &mut bands[..limit]);
+    ProfileParts {
+        answer: answer,
+        parts: SpecialParts {
+            count: answer.specials,
+            slots: slots,
+            bands: bands,
         },
     }
 }

@@ -1,4 +1,5 @@
-// Lists of terms, each in the first places of an array.
+// Lists of terms and of special slots, each in the first places of an array.
+use bands::SpecialSlot;
 use histogram::Term;
 
 // A destination: every place holds the term 9:9.
@@ -40,4 +41,46 @@ pub fn every_node() -> [Term; 1100] {
         i += 1;
     }
     terms
+}
+
+// A destination: every place holds the special slot 9:9.
+pub fn marked_specials() -> [SpecialSlot; 600] {
+    let special = SpecialSlot { slot: 9, band: 9 };
+    [special; 600]
+}
+
+// A special slot in every place, always the same.
+pub fn one_special(slot: u16, band: u16) -> [SpecialSlot; 600] {
+    let special = SpecialSlot {
+        slot: slot,
+        band: band,
+    };
+    [special; 600]
+}
+
+pub fn two_specials(slot: u16, band: u16, next_slot: u16, next_band: u16) -> [SpecialSlot; 600] {
+    let special = SpecialSlot {
+        slot: next_slot,
+        band: next_band,
+    };
+    let mut specials = [special; 600];
+    specials[0] = SpecialSlot {
+        slot: slot,
+        band: band,
+    };
+    specials
+}
+
+// The band 7 for each slot from 0 on.
+pub fn every_slot() -> [SpecialSlot; 600] {
+    let mut specials = [SpecialSlot { slot: 0, band: 7 }; 600];
+    let mut i = 0;
+    while i < 600 {
+        specials[i] = SpecialSlot {
+            slot: i as u16,
+            band: 7,
+        };
+        i += 1;
+    }
+    specials
 }

@@ -1,9 +1,13 @@
-// Records written from slices of terms. In each refusal every later check would fail too, so the order shows.
+// Records written from slices of terms and of special slots. In each refusal every later check would fail too, so the order shows.
 use crate::calls::write_record;
 use crate::lists::every_node;
+use crate::lists::every_slot;
+use crate::lists::one_special;
 use crate::lists::one_term;
+use crate::lists::two_specials;
 use crate::lists::two_terms;
 use crate::print_written;
+use bands::SpecialSlot;
 use histogram::Term;
 use printing::print;
 use printing::print_bytes;
@@ -18,7 +22,11 @@ pub fn run() {
     terms();
     too_many();
     greatest_number();
+    special_slots();
+    own_bands();
+    too_many_specials();
     short();
+    with_specials();
 }
 
 fn slots() {
@@ -71,21 +79,145 @@ fn too_many() {
 fn greatest_number() {
     let all = every_node();
     write(b"1,024 terms", 512, 0, 0, all, 1024);
-    write(b"1,023 terms into 12 bytes", 512, 0, 0, all, 1023);
+    write_plain(b"1,023 terms into 12 bytes", 512, 0, 0, all, 1023);
+}
+
+// The slots of special slots: past the last, twice, and descending.
+fn special_slots() {
+    special(b"a special slot past the last", two_specials(0, 9, 4, 9), 2);
+    special(b"a special slot twice", two_specials(1, 9, 1, 9), 2);
+    special(b"special slots that descend", two_specials(2, 9, 1, 9), 2);
+}
+
+// Their bands: above 40,000, and the common one.
+fn own_bands() {
+    special(b"an own band above", one_special(3, 40001), 1);
+    special(b"an own band that is the common one", one_special(3, 25), 1);
+}
+
+// More special slots than any list can have; and as many as 512 slots have, which only 12 bytes refuse.
+fn too_many_specials() {
+    let all = every_slot();
+    write_for(
+        b"600 special slots",
+        512,
+        25,
+        1400,
+        one_term(3, 1975),
+        1,
+        all,
+        600,
+    );
+    write_for(
+        b"513 special slots",
+        512,
+        25,
+        1400,
+        one_term(3, 1975),
+        1,
+        all,
+        513,
+    );
+    write_for(
+        b"512 special slots into 12 bytes",
+        512,
+        25,
+        1400,
+        one_term(3, 1975),
+        1,
+        all,
+        512,
+    );
 }
 
 fn short() {
-    write(b"2 terms into 12 bytes", 4, 0, 0, two_terms(2, 1, 3, 1), 2);
-    write(b"a term into 12 bytes", 4, 25, 1400, one_term(3, 1975), 1);
-    write(b"no term into 12 bytes", 4, 25, 1400, one_term(3, 1975), 0);
+    write_plain(b"2 terms into 12 bytes", 4, 0, 0, two_terms(2, 1, 3, 1), 2);
+    write_plain(b"a term into 12 bytes", 4, 25, 1400, one_term(3, 1975), 1);
+    write_plain(b"no term into 12 bytes", 4, 25, 1400, one_term(3, 1975), 0);
 }
 
-// The refusal's number, the count of bytes and the destination, which held 255 in every place.
+// A special slot takes 35 bits in a record that had none.
+fn with_specials() {
+    special(
+        b"a term and a special slot into 12 bytes",
+        one_special(1, 10),
+        1,
+    );
+    write_for(
+        b"a special slot and no term into 12 bytes",
+        4,
+        25,
+        1400,
+        one_term(3, 1975),
+        0,
+        one_special(1, 10),
+        1,
+    );
+}
+
+// A record of 4 slots with these special slots.
+fn special(what: &[u8], specials: [SpecialSlot; 600], number: usize)
+    requires { ⌜ number ≤ 600 ⌝ }
+{
+    write_for(what, 4, 25, 1400, one_term(3, 1975), 1, specials, number);
+}
+
+// With a special slot that is wrong in every record.
 fn write(what: &[u8], slots: usize, band: i32, rest: i32, terms: [Term; 1100], count: usize)
     requires { ⌜ count ≤ 1100 ⌝ }
 {
+    write_for(
+        what,
+        slots,
+        band,
+        rest,
+        terms,
+        count,
+        one_special(512, 9),
+        1,
+    );
+}
+
+// With no special slot.
+fn write_plain(what: &[u8], slots: usize, band: i32, rest: i32, terms: [Term; 1100], count: usize)
+    requires { ⌜ count ≤ 1100 ⌝ }
+{
+    write_for(
+        what,
+        slots,
+        band,
+        rest,
+        terms,
+        count,
+        one_special(512, 9),
+        0,
+    );
+}
+
+// The refusal's number, the count of bytes and the destination, which held 255 in every place.
+fn write_for(
+    what: &[u8],
+    slots: usize,
+    band: i32,
+    rest: i32,
+    terms: [Term; 1100],
+    count: usize,
+    specials: [SpecialSlot; 600],
+    number: usize,
+)
+    requires { ⌜ (count ≤ 1100) × (number ≤ 600) ⌝ }
+{
     let mut bytes = [255u8; 12];
-    let answer = write_record(slots, band, rest, terms, count, &mut bytes);
+    let answer = write_record(
+        slots,
+        band,
+        rest,
+        terms,
+        count,
+        specials,
+        number,
+        &mut bytes,
+    );
     print_call(b"write ", what);
     print_written(answer);
     print_bytes(&bytes);

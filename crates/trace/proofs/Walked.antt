@@ -60,10 +60,10 @@ gathered-append termAt first (suc count) further =
     split none later all same = same
     split (some value) later all same = ap (λ (terms : List Term). record { node = first; value = lowered value } ∷ terms) same
 
-module _ {profile : List ℤ} {rest : ℤ} (in-range : InRange profile rest) (band : ℕ) where
+module _ {profile : List ℤ} {rest : ℤ} (in-range : InRange profile rest) (bands : List ℕ) where
   -- the theory's walk: what a value costs, what comes in at a node, and the term that is left there
   abbrev costOf : ℕ → ℕ → ℕ → ℕ
-  costOf = cost binary (accepts profile band) 40000
+  costOf = cost binary (accepts profile bands) 40000
 
   abbrev incoming : ℕ → ℕ → ℕ
   incoming = comesIn costOf (height (length profile)) (lifted rest)
@@ -77,7 +77,7 @@ module _ {profile : List ℤ} {rest : ℤ} (in-range : InRange profile rest) (ba
     from : 2 ^ levels ≤ node
     to : node < 2 ^ suc levels
     usable : Usable leaves
-    leaves-below : Below (accepts profile band) below node leaves
+    leaves-below : Below (accepts profile bands) below node leaves
     value-within : value ≤ 40000
     value-is : value ≡ incoming levels node
 
@@ -86,7 +86,7 @@ module _ {profile : List ℤ} {rest : ℤ} (in-range : InRange profile rest) (ba
       → choice (answer below leaves .windows) value ≡ chosen 40000 (costOf below node) value
   chosen-there {levels} {below} {node} {leaves} {value} reached =
       choice-is-chosen (answer below leaves .windows) (answer-sorted (reached .usable) below) (answer-bounded below leaves .some)
-      (answer-row (accepts profile band) below node (reached .usable) (reached .leaves-below)) value (reached .value-within)
+      (answer-row (accepts profile bands) below node (reached .usable) (reached .leaves-below)) value (reached .value-within)
 
   -- and that is the term that the walk leaves at the node
   left-there : {levels below node : ℕ} {leaves : List Window} {value : ℕ} → Reached levels below node leaves value
@@ -98,7 +98,7 @@ module _ {profile : List ℤ} {rest : ℤ} (in-range : InRange profile rest) (ba
 
   -- a child is reached with the value that the node hands on
   child-reached : {levels below node : ℕ} {leaves : List Window} {value : ℕ} → Reached levels (suc below) node leaves value
-      → (child : ℕ) {half : List Window} → child / 2 ≡ node → Usable half → Below (accepts profile band) below child half
+      → (child : ℕ) {half : List Window} → child / 2 ≡ node → Usable half → Below (accepts profile bands) below child half
       → Reached (suc levels) below child half (handedOn (answer (suc below) leaves .windows) value)
   unfolding comesIn
   child-reached {levels} {below} {node} {leaves} {value} reached child above half-within half-below =
@@ -130,7 +130,7 @@ module _ {profile : List ℤ} {rest : ℤ} (in-range : InRange profile rest) (ba
       rw (level-gathered depth left (omega arith), level-gathered depth right (omega arith), first, second, gathered-append, whole)
 
   -- the first levels together
-  levels-gathered : {leaves : List Window} → Usable leaves → Below (accepts profile band) (height (length profile)) 1 leaves → (count : ℕ) → count ≤ suc (height (length profile))
+  levels-gathered : {leaves : List Window} → Usable leaves → Below (accepts profile bands) (height (length profile)) 1 leaves → (count : ℕ) → count ≤ suc (height (length profile))
       → upperTerms count (height (length profile)) leaves (lifted rest) ≡ gathered termAt 1 (2 ^ count - 1)
   unfolding upperTerms gathered comesIn
   levels-gathered within below zero in-tree = refl
@@ -149,15 +149,15 @@ module _ {profile : List ℤ} {rest : ℤ} (in-range : InRange profile rest) (ba
       rw (levels-gathered within below count (omega arith), level-gathered count reached (omega arith), first, gathered-append, whole)
 
   -- all levels are all that the walk leaves
-  upper-terms-walked : {leaves : List Window} → Usable leaves → Below (accepts profile band) (height (length profile)) 1 leaves
-      → upperTerms (suc (height (length profile))) (height (length profile)) leaves (lifted rest) ≡ walkedTerms in-range band
+  upper-terms-walked : {leaves : List Window} → Usable leaves → Below (accepts profile bands) (height (length profile)) 1 leaves
+      → upperTerms (suc (height (length profile))) (height (length profile)) leaves (lifted rest) ≡ walkedTerms in-range bands
   upper-terms-walked within below =
       levels-gathered within below (suc (height (length profile))) (omega arith)
       ∙ ap (λ (count : ℕ). gathered termAt 1 (count - 1)) (pow-succ' 2 (height (length profile)))
 
   -- so for the windows of the profile's slots
-  pub profile-walked : upperTerms (suc (height (length profile))) (height (length profile)) (slotWindows band profile) (lifted rest) ≡ walkedTerms in-range band
-  profile-walked = upper-terms-walked (windows-usable band (profile-within in-range)) (slots-below profile band (profile-within in-range))
+  pub profile-walked : length bands ≡ length profile → upperTerms (suc (height (length profile))) (height (length profile)) (slotWindows bands profile) (lifted rest) ≡ walkedTerms in-range bands
+  profile-walked each-band = upper-terms-walked (windows-usable bands (profile-within in-range)) (slots-below profile bands each-band (profile-within in-range))
 
 -- fewer levels have no more terms
 module _ (height : ℕ) (leaves : List Window) (value : ℕ) where

@@ -10,24 +10,24 @@ slice-relend-prefix-build-synopsis : tie.Need-slice-relend-prefix-build-synopsis
 slice-relend-prefix-build-synopsis c = search needs
 
 slice-aggregate-build-synopsis : tie.Need-slice-aggregate-build-synopsis
-slice-aggregate-build-synopsis c = sym (length-take-le (c .before .before .args .places) (c .before .before .args .nodes .now) (omega arith))
+slice-aggregate-build-synopsis c = sym (length-take-le (c .before .before .before .before .args .places) (c .before .before .before .before .args .nodes .now) (omega arith))
 
 slice-relend-prefix-build-synopsis-2 : tie.Need-slice-relend-prefix-build-synopsis-2
 slice-relend-prefix-build-synopsis-2 c = search needs
 
 slice-aggregate-build-synopsis-2 : tie.Need-slice-aggregate-build-synopsis-2
-slice-aggregate-build-synopsis-2 c = sym (length-take-le (c .before .before .before .args .places) (c .before .before .before .args .values .now) (omega arith))
+slice-aggregate-build-synopsis-2 c = sym (length-take-le (c .before .before .before .before .before .args .places) (c .before .before .before .before .before .args .values .now) (omega arith))
 
 slice-relend-prefix-build-synopsis-3 : tie.Need-slice-relend-prefix-build-synopsis-3
 slice-relend-prefix-build-synopsis-3 c = search needs
 
 slice-aggregate-build-synopsis-3 : tie.Need-slice-aggregate-build-synopsis-3
-slice-aggregate-build-synopsis-3 c = sym (length-take-le (c .before .before .before .before .args .numbers) (c .before .before .before .before .args .scratch .now) (omega arith))
+slice-aggregate-build-synopsis-3 c = sym (length-take-le (c .before .before .before .before .before .before .args .numbers) (c .before .before .before .before .before .before .args .scratch .now) (omega arith))
 
 build-synopsis-requires : tie.Need-build-synopsis-requires
 build-synopsis-requires c κs =
-    let a = c .before .before .before .before .args in
-    length-take-le (a .places) (a .nodes .now) (omega arith) ∙ sym (length-take-le (a .places) (a .values .now) (omega arith))
+    let a = c .before .before .before .before .before .before .args in
+    (c .before .before .before .before .before .before .pre .0, length-take-le (a .places) (a .nodes .now) (omega arith) ∙ sym (length-take-le (a .places) (a .values .now) (omega arith)))
 
 same-length : tie.Need-same-length
 same-length c = search needs

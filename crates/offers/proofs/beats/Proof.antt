@@ -1,12 +1,12 @@
 -- `offers::beats` meets its contract.
-use Rattle.offers.proofs.Choices.{by-errors, by-terms}
+use Rattle.offers.proofs.Choices.{by-margins, by-terms}
 use Rattle.offers.proofs.beats.Statement.{statement}
 use Rattle.offers.proofs.beats.Tie as tie
 
 returns : tie.Need-returns
 returns c =
     let args = c .before .before .before .before .before .args in
-    by-errors (args .candidate) (args .other) (c .before .before .if1 .taken)
+    by-margins (args .candidate) (args .other) (c .before .before .if1 .taken)
 
 returns-2 : tie.Need-returns-2
 returns-2 c =

@@ -11,6 +11,9 @@ use Rattle.panel.proofs.panel_record_against_text.Tie as tie
 slice-aggregate-read-text : tie.Need-slice-aggregate-read-text
 slice-aggregate-read-text c = search needs
 
+slice-aggregate-read-text-2 : tie.Need-slice-aggregate-read-text-2
+slice-aggregate-read-text-2 c = search needs
+
 read-text-requires : tie.Need-read-text-requires
 read-text-requires c κs = search needs
 
@@ -22,15 +25,15 @@ pack-requires c κs = search needs
 
 returns : tie.Need-returns
 returns c =
-    let args = c .before .before .before .before .before .before .before .before .before .args in
-    let read = c .before .before .before .before .before .read-text in
+    let args = c .before .before .before .before .before .before .before .before .before .before .before .args in
+    let read = c .before .before .before .before .before .before .read-text in
     c .pack .ensures ∙ against-refused (args .bytes .now) (args .text .now) (read .result .refusal) (read .ensures .refusal-is) (omega arith)
 
 array-share-prefix-setpoints : tie.Need-array-share-prefix-setpoints
-array-share-prefix-setpoints c = held (c .before .before .before .read-text .ensures) (omega arith) .inside
+array-share-prefix-setpoints c = held (c .before .before .before .before .read-text .ensures) (omega arith) .inside
 
 slice-aggregate-check-record : tie.Need-slice-aggregate-check-record
-slice-aggregate-check-record c = sym (length-take-le _ _ (held (c .before .before .before .before .read-text .ensures) (omega arith) .inside))
+slice-aggregate-check-record c = sym (length-take-le _ _ (held (c .before .before .before .before .before .read-text .ensures) (omega arith) .inside))
 
 check-record-requires : tie.Need-check-record-requires
 check-record-requires c κs = search needs
@@ -54,8 +57,8 @@ pack-requires-2 c κs =
 
 returns-2 : tie.Need-returns-2
 returns-2 c =
-    let args = c .before .before .before .before .before .before .before .before .before .before .before .before .before .before .args in
-    let read = c .before .before .before .before .before .before .before .before .before .before .read-text in
+    let args = c .before .before .before .before .before .before .before .before .before .before .before .before .before .before .before .before .args in
+    let read = c .before .before .before .before .before .before .before .before .before .before .before .read-text in
     let checked = c .before .before .before .before .before .check-record in
     let of-text = held (read .ensures) (omega arith) in
     c .pack2 .ensures
@@ -68,6 +71,7 @@ panel-record-against-text-spec =
     tie.close
     (tie.spec
     slice-aggregate-read-text
+    slice-aggregate-read-text-2
     read-text-requires
     cast-pack
     pack-requires

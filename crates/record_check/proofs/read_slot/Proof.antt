@@ -15,40 +15,41 @@ slice-aggregate-read-into-room c = search needs
 slice-aggregate-read-into-room-2 : tie.Need-slice-aggregate-read-into-room-2
 slice-aggregate-read-into-room-2 c = search needs
 
+slice-aggregate-read-into-room-3 : tie.Need-slice-aggregate-read-into-room-3
+slice-aggregate-read-into-room-3 c = search needs
+
 read-into-room-requires : tie.Need-read-into-room-requires
 read-into-room-requires c κs = search needs
 
 returns : tie.Need-returns
-returns c = refused-slot (c .before .before .before .before .read-into-room .ensures) (c .before .before .before .before .before .before .before .before .args .slot) (c .if1 .taken)
+returns c = refused-slot (c .before .before .before .before .before .read-into-room .ensures) (c .before .before .before .before .before .before .before .before .before .before .args .slot) (c .if1 .taken)
 
 array-share-prefix-nodes : tie.Need-array-share-prefix-nodes
-array-share-prefix-nodes c = Accepted.in-nodes (c .before .before .before .before .read-into-room .ensures) (c .if1 .left)
+array-share-prefix-nodes c = Accepted.in-nodes (c .before .before .before .before .before .read-into-room .ensures) (c .if1 .left)
 
 slice-aggregate-restore-checked-slot : tie.Need-slice-aggregate-restore-checked-slot
-slice-aggregate-restore-checked-slot c = sym (Accepted.nodes-counted (c .before .before .before .before .before .read-into-room .ensures) (c .before .if1 .left))
+slice-aggregate-restore-checked-slot c = sym (Accepted.nodes-counted (c .before .before .before .before .before .before .read-into-room .ensures) (c .before .if1 .left))
 
 array-share-prefix-values : tie.Need-array-share-prefix-values
-array-share-prefix-values c = Accepted.in-values (c .before .before .before .before .before .read-into-room .ensures) (c .before .if1 .left)
+array-share-prefix-values c = Accepted.in-values (c .before .before .before .before .before .before .read-into-room .ensures) (c .before .if1 .left)
 
 slice-aggregate-restore-checked-slot-2 : tie.Need-slice-aggregate-restore-checked-slot-2
-slice-aggregate-restore-checked-slot-2 c = sym (Accepted.values-counted (c .before .before .before .before .before .before .read-into-room .ensures) (c .before .before .if1 .left))
+slice-aggregate-restore-checked-slot-2 c = sym (Accepted.values-counted (c .before .before .before .before .before .before .before .read-into-room .ensures) (c .before .before .if1 .left))
 
 restore-checked-slot-requires : tie.Need-restore-checked-slot-requires
 restore-checked-slot-requires c κs =
-    let args = c .before .before .before .before .before .before .before .before .before .before .before .args in
-    let read = c .before .before .before .before .before .before .before .read-into-room in
+    let read = c .before .before .before .before .before .before .before .before .read-into-room in
     let right = c .before .before .before .if1 .left in
     let fits : SFits w32 (read .result .rest) = search needs in (
       Accepted.nodes-counted (read .ensures) right ∙ sym (Accepted.values-counted (read .ensures) right),
-      rw (toZ-ofZ fits) (terms-right (read .ensures) (args .slot) right),
+      rw (toZ-ofZ fits) (terms-right (read .ensures) (c .before .before .before .before .before .before .before .before .before .before .before .before .before .args .slot) right),
     )
 
 returns-2 : tie.Need-returns-2
 returns-2 c =
-    let a = c .before .before .before .before .before .before .before .before .before .before .before .before .args in
-    let read = c .before .before .before .before .before .before .before .before .read-into-room in
+    let read = c .before .before .before .before .before .before .before .before .before .read-into-room in
     let fits : SFits w32 (read .result .rest) = search needs in
-    restored-slot (read .ensures) (a .slot) (c .before .before .before .before .if1 .left) _ _ (rw (toZ-ofZ fits) at (c .restore-checked-slot .ensures))
+    restored-slot (read .ensures) (c .before .before .before .before .before .before .before .before .before .before .before .before .before .before .args .slot) (c .before .before .before .before .if1 .left) _ _ (rw (toZ-ofZ fits) at (c .restore-checked-slot .ensures))
 
 pub read-slot-spec : {M : Type 1} → statement M
 read-slot-spec =
@@ -56,6 +57,7 @@ read-slot-spec =
     (tie.spec
     slice-aggregate-read-into-room
     slice-aggregate-read-into-room-2
+    slice-aggregate-read-into-room-3
     read-into-room-requires
     returns
     array-share-prefix-nodes

@@ -45,7 +45,7 @@ returns : tie.Need-returns
 returns c =
     let bytes = c .before .before .before .before .before .before .args .bytes .now in
     let test = rw (widened-to w16 w32 tt (rest-fits (c .before .before .before)), rest-read (c .before .before .before)) at (c .before .before .is-beyond .ensures) in
-    rw (c .refused .ensures) (rest-wrong bytes (c .before .before .before .before .before .before .args .count) (sym test ∙ c .before .if1 .taken))
+    rw (c .refused .ensures) (rest-wrong bytes (c .before .before .before .before .before .before .args .count) (c .before .before .before .before .before .before .args .specials) (sym test ∙ c .before .if1 .taken))
 
 read-requires : tie.Need-read-requires
 read-requires c κs = search needs
@@ -64,7 +64,7 @@ returns-2 c =
     let bytes = c .before .before .before .before .before .before .before .before .before .args .bytes .now in
     let rest-test = rw (widened-to w16 w32 tt (rest-fits (c .before .before .before .before .before .before)), rest-read (c .before .before .before .before .before .before)) at (c .before .before .before .before .before .is-beyond .ensures) in
     let band-test = rw (band-read (c .before .before .before)) at (c .before .before .is-outside-band .ensures) in
-    rw (c .refused2 .ensures) (band-wrong bytes (c .before .before .before .before .before .before .before .before .before .args .count) (sym rest-test ∙ c .before .before .before .before .if1 .left) (sym band-test ∙ c .before .if2 .taken))
+    rw (c .refused2 .ensures) (band-wrong bytes (c .before .before .before .before .before .before .before .before .before .args .count) (c .before .before .before .before .before .before .before .before .before .args .specials) (sym rest-test ∙ c .before .before .before .before .if1 .left) (sym band-test ∙ c .before .if2 .taken))
 
 read-requires-2 : tie.Need-read-requires-2
 read-requires-2 c κs = search needs
@@ -82,7 +82,7 @@ returns-3 c =
     let band-test = rw (band-read (c .before .before .before)) at (c .before .before .is-outside-band .ensures) in
     let length-read = rw (c .before .before .before .before .before .before .before .places .ensures .of-length) at (c .read2 .ensures) in
     rw (widened-to w16 w32 tt (rest-fits (c .before .before .before .before .before .before)), rest-read (c .before .before .before .before .before .before), band-read (c .before .before .before), length-read)
-    (fields-right bytes (c .before .before .before .before .before .before .before .before .before .args .count) (sym rest-test ∙ c .before .before .before .before .if1 .left) (sym band-test ∙ c .before .if2 .left))
+    (fields-right bytes (c .before .before .before .before .before .before .before .before .before .args .count) (c .before .before .before .before .before .before .before .before .before .args .specials) (sym rest-test ∙ c .before .before .before .before .if1 .left) (sym band-test ∙ c .before .if2 .left))
 
 pub read-fields-spec : {M : Type 1} → statement M
 read-fields-spec =

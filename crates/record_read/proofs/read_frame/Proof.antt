@@ -1,9 +1,7 @@
 -- `record_read::read_frame` meets its contract: each way out is a case of row 7.
 use mathlib.Core.Path.{_≡_, sym, _∙_}
-use native.Mathlib.Omega.{arith}
 use Rattle.record.specs.Record.{versionIn, countIn}
-use Rattle.record.proofs.Bounds.{few-terms}
-use Rattle.record_read.proofs.Frames.{too-short, wrong-version, wrong-byte-count, by-fill}
+use Rattle.record_read.proofs.Frames.{too-short, unknown-version, first-opened}
 use borrow.Author.Needs.{needs}
 use Rattle.record_read.proofs.read_frame.Statement.{statement}
 use Rattle.record_read.proofs.read_frame.Tie as tie
@@ -14,8 +12,11 @@ version-read c = rw (c .before .start .ensures) at (c .read .ensures)
 count-read : (c : tie.After-read2) → c .read2 .result ≡ countIn (c .before .before .before .before .before .before .args .bytes .now)
 count-read c = rw (c .before .places .ensures .of-count) at (c .read2 .ensures)
 
+no-frame-requires : tie.Need-no-frame-requires
+no-frame-requires c κs = search needs
+
 returns : tie.Need-returns
-returns c = too-short (c .before .before .args .bytes .now) (c .if1 .taken)
+returns c = rw (c .no-frame .ensures) (too-short (c .before .before .before .args .bytes .now) (c .before .if1 .taken))
 
 start-requires : tie.Need-start-requires
 start-requires c κs = search needs
@@ -32,45 +33,42 @@ read-requires-2 c κs = search needs
 cast-count : tie.Need-cast-count
 cast-count c = search needs
 
-record-length-requires : tie.Need-record-length-requires
-record-length-requires c κs =
-    let bytes = c .before .before .before .before .before .before .args .bytes .now in
-    omega (arith, count-read c, few-terms bytes)
+close-frame-requires : tie.Need-close-frame-requires
+close-frame-requires c κs =
+    first-opened (c .before .before .before .before .before .before .before .args .bytes .now) (c .before .before .before .before .before .if1 .left) (version-read (c .before .before .before)) (c .if2 .taken) (count-read (c .before))
 
 returns-2 : tie.Need-returns-2
-returns-2 c =
-    let bytes = c .before .before .before .before .before .before .before .before .args .bytes .now in
-    wrong-byte-count bytes (c .before .before .before .before .before .before .if1 .left) (λ same. c .if2 .taken (same ∙ sym (rw (count-read (c .before .before)) at (c .before .record-length .ensures))))
+returns-2 c = search needs
+
+read-second-count-requires : tie.Need-read-second-count-requires
+read-second-count-requires c κs =
+    record { long-enough = c .before .before .before .before .before .before .if1 .left; version-is = sym (version-read (c .before .before .before .before)) ∙ c .if3 .taken; count-is = count-read (c .before .before) }
 
 returns-3 : tie.Need-returns-3
-returns-3 c =
-    let bytes = c .before .before .before .before .before .before .before .before .before .args .bytes .now in
-    wrong-version bytes (c .before .before .before .before .before .before .before .if1 .left) (λ one. c .if3 .taken (version-read (c .before .before .before .before .before) ∙ one))
+returns-3 c = search needs
 
-read-fill-requires : tie.Need-read-fill-requires
-read-fill-requires c κs =
-    let bytes = c .before .before .before .before .before .before .before .before .before .args .bytes .now in
-    record { few = omega (arith, count-read (c .before .before .before), few-terms bytes); long = c .before .if2 .left ∙ c .before .before .record-length .ensures }
+no-frame-requires-2 : tie.Need-no-frame-requires-2
+no-frame-requires-2 c κs = search needs
 
 returns-4 : tie.Need-returns-4
 returns-4 c =
-    let bytes = c .before .before .before .before .before .before .before .before .before .before .args .bytes .now in
-    let count = count-read (c .before .before .before .before) in
-    by-fill bytes (c .before .before .before .before .before .before .before .before .if1 .left) (c .read-fill .result) (c .before .before .before .before .read2 .result) (sym (version-read (c .before .before .before .before .before .before)) ∙ c .before .if3 .left) count
-    (c .before .before .if2 .left ∙ c .before .before .before .record-length .ensures) (rw count at (c .read-fill .ensures))
+    let version = version-read (c .before .before .before .before .before) in
+    rw (c .no-frame2 .ensures) (unknown-version (c .before .before .before .before .before .before .before .before .before .args .bytes .now) (c .before .before .before .before .before .before .before .if1 .left) (λ first. c .before .before .if2 .left (version ∙ first)) (λ second. c .before .if3 .left (version ∙ second)))
 
 pub read-frame-spec : {M : Type 1} → statement M
 read-frame-spec =
     tie.close
     (tie.spec
+    no-frame-requires
     returns
     start-requires
     read-requires
     places-requires
     read-requires-2
     cast-count
-    record-length-requires
+    close-frame-requires
     returns-2
+    read-second-count-requires
     returns-3
-    read-fill-requires
+    no-frame-requires-2
     returns-4)

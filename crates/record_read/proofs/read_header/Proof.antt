@@ -12,13 +12,13 @@ read-frame-requires c κs = search needs
 read-fields-requires : tie.Need-read-fields-requires
 read-fields-requires c κs =
     let bytes = c .before .before .before .args .bytes .now in
-    well-formed-parts bytes (sym (c .before .read-frame .ensures .right-is) ∙ c .if1 .taken) .0
+    well-formed-parts bytes (sym (c .before .read-frame .ensures .right-is) ∙ c .if1 .taken) .long-enough
 
 returns : tie.Need-returns
 returns c =
     let bytes = c .before .before .before .before .args .bytes .now in
     let frame = c .before .before .read-frame .ensures in
-    header-of-fields bytes (sym (frame .right-is) ∙ c .before .if1 .taken) (rw (frame .count-is (c .before .if1 .taken)) at (c .read-fields .ensures))
+    header-of-fields bytes (sym (frame .right-is) ∙ c .before .if1 .taken) (rw (frame .count-is (c .before .if1 .taken), frame .specials-is (c .before .if1 .taken)) at (c .read-fields .ensures))
 
 refused-requires : tie.Need-refused-requires
 refused-requires c κs = search needs

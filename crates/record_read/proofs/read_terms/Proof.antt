@@ -33,10 +33,10 @@ loop-holds c =
 within-record : (c : tie.In-loop Inv-loop μ-loop) → c .before .loop .place .at + layoutWidth termLayout ≤ 8 * length (c .before .before .before .before .before .before .args .bytes .now)
 within-record c =
     let pre = c .before .before .before .before .before .before .pre in
-    omega (arith, c .before .loop .inv .place-is, c .loop-test .taken, pre .framed .long)
+    omega (arith, c .before .loop .inv .place-is, c .loop-test .taken, pre .inside)
 
 inside-word : (c : tie.In-loop Inv-loop μ-loop) → c .before .loop .place .at + layoutWidth termLayout < 2 ^ 64
-inside-word c = omega (arith, c .before .loop .inv .place-is, c .loop-test .taken, c .before .before .before .before .before .before .pre .framed .few)
+inside-word c = omega (arith, c .before .loop .inv .place-is, c .loop-test .taken, c .before .before .before .before .before .before .pre .few)
 
 node-in-room : (c : tie.In-loop Inv-loop μ-loop) → c .before .loop .i < length (c .before .loop .nodes)
 node-in-room c = omega (arith, c .loop-test .taken, c .before .before .before .before .before .before .pre .in-nodes, c .before .loop .inv .nodes-laid .same-length)
@@ -51,7 +51,7 @@ read-requires : tie.Need-read-requires Inv-loop μ-loop
 read-requires c κs = record { narrow = omega arith; inside = omega (arith, within-record (c .before)) }
 
 mul-nodes : tie.Need-mul-nodes Inv-loop μ-loop
-mul-nodes c = omega (arith, c .before .before .loop-test .taken, c .before .before .before .before .before .before .before .before .pre .framed .few)
+mul-nodes c = omega (arith, c .before .before .loop-test .taken, c .before .before .before .before .before .before .before .before .pre .few)
 
 slice-write-nodes : tie.Need-slice-write-nodes Inv-loop μ-loop
 slice-write-nodes c = node-in-room (c .before .before)
@@ -60,7 +60,7 @@ read-signed-requires : tie.Need-read-signed-requires Inv-loop μ-loop
 read-signed-requires c κs = record { narrow = omega arith; inside = omega (arith, c .before .after .ensures, within-record (c .before .before)) }
 
 mul-t11 : tie.Need-mul-t11 Inv-loop μ-loop
-mul-t11 c = omega (arith, c .before .before .before .loop-test .taken, c .before .before .before .before .before .before .before .before .before .pre .framed .few)
+mul-t11 c = omega (arith, c .before .before .before .loop-test .taken, c .before .before .before .before .before .before .before .before .before .pre .few)
 
 slice-set-from-values : tie.Need-slice-set-from-values Inv-loop μ-loop
 slice-set-from-values c = value-in-room (c .before .before .before)
@@ -69,7 +69,7 @@ after-requires-2 : tie.Need-after-requires-2 Inv-loop μ-loop
 after-requires-2 c κs = omega (arith, c .before .before .after .ensures, inside-word (c .before .before .before))
 
 add-i : tie.Need-add-i Inv-loop μ-loop
-add-i c = omega (arith, c .before .before .before .before .loop-test .taken, c .before .before .before .before .before .before .before .before .before .before .pre .framed .few)
+add-i c = omega (arith, c .before .before .before .before .loop-test .taken, c .before .before .before .before .before .before .before .before .before .before .pre .few)
 
 loop-less : tie.Need-loop-less Inv-loop μ-loop
 loop-less c = omega (arith, c .before .before .before .before .loop-test .taken)

@@ -1,4 +1,4 @@
--- `record_write::put_fill` meets its contract: the bits behind the last term are fewer than eight, and 0 in as many bits is zeros.
+-- `record_write::put_fill` meets its contract: the bits behind the last field are fewer than eight, and 0 in as many bits is zeros.
 use mathlib.Core.Path.{_≡_, _∙_}
 use mathlib.Core.List.{List, append-nil}
 use Prim.Native.Nat.{ℕ, _+_, _-_, _*_, _≤_}
@@ -8,7 +8,8 @@ use lib.Pow.{pow-pos}
 use Rattle.bits.specs.Bits.{bits, bitsOf, replacedAt}
 use Rattle.bits.proofs.Fields.{length-bits}
 use Rattle.bits.proofs.Bytes.{length-bits-of}
-use Rattle.record.specs.Record.{termsEnd}
+use Rattle.record.specs.Record.{versionFor, fieldsEnd}
+use Rattle.record.proofs.Ends.{end-bound}
 use Rattle.record.proofs.Fill.{bits-of-zero}
 use Rattle.record_write.specs.Inner.{filled}
 use borrow.Author.Needs.{needs}
@@ -23,27 +24,49 @@ zeros-to-end bytes used inside =
     let as-many : left ≡ length (bitsOf bytes) - used = omega (arith, length-bits-of bytes) in
     rw (drop-of-length-le (bitsOf bytes) all, append-nil (bits left 0), bits-of-zero left, as-many)
 
-after-terms-requires : tie.Need-after-terms-requires
-after-terms-requires c κs = search needs
+-- the place behind the last field
+placed : (c : tie.After-after-fields) → let a = c .before .before .before .args in c .after-fields .result .at ≡ fieldsEnd (versionFor (a .specials)) (a .terms) (a .specials)
+placed c = rw (c .before .version-for .ensures) at (c .after-fields .ensures)
+
+version-for-requires : tie.Need-version-for-requires
+version-for-requires c κs = search needs
+
+after-fields-requires : tie.Need-after-fields-requires
+after-fields-requires c κs = search needs
 
 mul-end : tie.Need-mul-end
-mul-end c = search needs
+mul-end c =
+    let start = c .before .before .before in
+    let a = start .args in
+    record { fits = omega (arith, start .pre .just-room, end-bound (versionFor (a .specials)) (a .terms) (a .specials) (start .pre .counted)) }
 
 sub-write : tie.Need-sub-write
-sub-write c = search needs
+sub-write c = omega (arith, placed (c .before), c .before .before .before .before .pre .just-room)
 
 write-requires : tie.Need-write-requires
-write-requires c κs = record { within = search needs; fits = pow-pos _ }
+write-requires c κs =
+    let room = c .before .before .before .before .before .pre .just-room in
+    record { within = record { narrow = omega (arith, placed (c .before .before), room); inside = omega (arith, placed (c .before .before), room) }; fits = pow-pos _ }
 
 same-length : tie.Need-same-length
 same-length c = search needs
 
 returns : tie.Need-returns
 returns c =
-    let start = c .before .before .before .before .before .before .before in
-    let placed = c .before .before .before .before .before .after-terms .ensures in
-    rw placed at (c .before .before .write .ensures) ∙ zeros-to-end (start .args .bytes .now) (termsEnd (start .args .count)) (search needs)
+    let start = c .before .before .before .before .before .before .before .before in
+    let a = start .args in
+    let end = fieldsEnd (versionFor (a .specials)) (a .terms) (a .specials) in
+    rw (placed (c .before .before .before .before .before)) at (c .before .before .write .ensures)
+    ∙ zeros-to-end (a .bytes .now) end (omega (arith, start .pre .just-room))
 
 pub put-fill-spec : {M : Type 1} → statement M
 put-fill-spec =
-    tie.close (tie.spec after-terms-requires mul-end sub-write write-requires same-length returns)
+    tie.close
+    (tie.spec
+    version-for-requires
+    after-fields-requires
+    mul-end
+    sub-write
+    write-requires
+    same-length
+    returns)

@@ -51,7 +51,7 @@ returns c =
     let start = c .before .before .before .before .before .before .before .before .before .before .before .before .before .before .before .before .before .before .before .before .before .before .before in
     let a = start .args in
     let at = c .before .before .before .before .before .before .before .before .before .before .before .before .before .before .before .before .before .before .before .before .before .places .ensures in
-    let header : Header = record { slots = a .slots; band = a .band; rest = a .rest; count = a .count } in
+    let header : Header = record { version = a .version; slots = a .slots; band = a .band; rest = a .rest; count = a .count } in
     let version = rw (c .before .before .before .before .before .before .before .before .before .before .before .before .before .before .before .before .before .before .before .before .start .ensures) at (c .before .before .before .before .before .before .before .before .before .before .before .before .before .before .before .before .before .before .write .ensures) in
     let length = rw (at .of-length, version) at (c .before .before .before .before .before .before .before .before .before .before .before .before .before .before .write2 .ensures) in
     let band = rw (at .of-band, length) at (c .before .before .before .before .before .before .before .before .before .before .write3 .ensures) in

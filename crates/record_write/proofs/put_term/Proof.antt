@@ -42,7 +42,7 @@ returns c =
       next-is = omega (arith, c .after2 .ensures, next);
       bits-are =
           _∙_ {b = rowsReplaced term termLayout (a .place .at) before} value
-          (rows-replaced term termLayout (a .place .at) before (omega (arith, length-bits-of (a .bytes .now), start .pre .room)));
+          (rows-replaced term termLayout (a .place .at) before (omega (arith, length-bits-of (a .bytes .now), start .pre .1 .room)));
     }
 
 pub put-term-spec : {M : Type 1} → statement M

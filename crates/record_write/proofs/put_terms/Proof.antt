@@ -39,11 +39,7 @@ shared-slice-copy-out-put-term c = search needs
 put-term-requires : tie.Need-put-term-requires Inv-loop μ-loop
 put-term-requires c κs =
     let start = c .before .before .before .before .before .before .before .before .before in
-    record {
-      node-fits = start .pre .nodes-fit (c .before .before .before .before .loop .i);
-      room = omega (arith, start .pre .fill-fits .just-room);
-      counted = omega (arith, start .pre .fill-fits .few-terms);
-    }
+    (start .pre .nodes-fit (c .before .before .before .before .loop .i), record { room = omega (arith, start .pre .room); counted = omega (arith, start .pre .few-terms) })
 
 add-i : tie.Need-add-i Inv-loop μ-loop
 add-i c = search needs
@@ -57,7 +53,7 @@ loop-again c =
     let a = start .args in
     let loop = c .before .before .before .before .before .before .before .loop in
     let put = rw (element (getD (a .values .now) (loop .i) (pos 0)) (c .before .before .before .before .put-term-arg .given)) at (c .before .before .put-term .ensures) in
-    one-more-written (a .nodes .now) (a .values .now) (a .bytes .now) (start .pre .same-length) (omega (arith, start .pre .fill-fits .just-room))
+    one-more-written (a .nodes .now) (a .values .now) (a .bytes .now) (start .pre .same-length) (start .pre .room)
     (loop .inv) (c .before .before .before .before .before .before .loop-test .taken) (c .before .before .put-term .kept .1 .1 .1 .0) put
 
 same-length : tie.Need-same-length Inv-loop μ-loop

@@ -1,129 +1,123 @@
--- `record_write::write_record` meets its contract: two ways out that leave the destination, and then the record laid over its front.
-use mathlib.Core.Path.{_≡_, refl, sym, ap, ap₂, _∙_}
-use mathlib.Core.List.{List, [], _++_}
-use Prim.Native.Nat.{ℕ, _≤_, _<_}
+-- `record_write::write_record` meets its contract: the refusal, or what writing for the bands of the special slots answers.
+use mathlib.Core.Path.{_≡_, sym}
+use mathlib.Core.List.{_++_}
+use Prim.Native.Nat.{_≤_}
 use native.Mathlib.Omega.{arith}
-use lib.IntN.{ℤ, natAbs}
-use lib.ListN.{length, drop}
+use lib.IntN.{natAbs}
+use lib.ListN.{length, take, drop, replicate, length-append}
 use lib.Seq.{length-take-le}
-use borrow.Author.Tests.{lt-ltb, le-ltb}
 use mir.Facts.{toZ-ofZ}
-use Rattle.limits.specs.Answers.{laid}
-use Rattle.limits.proofs.Refusals.{first-counts, granted-nothing}
-use Rattle.bits.proofs.Packing.{length-packed}
-use Rattle.histogram.specs.declared.Term.{Term}
-use Rattle.histogram.specs.Terms.{paired}
 use Rattle.limits.proofs.Signed.{narrower, narrower-fits}
-use Rattle.record.specs.Record.{recordBits, recordLength, recordBytes}
+use Rattle.bands.specs.Bands.{specialSlots}
+use Rattle.histogram.specs.Terms.{paired}
 use Rattle.record.specs.Answers.{packingRefusal}
-use Rattle.record_write.specs.Writing.{RecordWritten}
-use Rattle.histogram.proofs.Paired.{length-paired}
-use Rattle.histogram.proofs.Ascent.{node-below}
-use Rattle.record_write.proofs.Refusals.{Accepted, accepted}
+use Rattle.record_write.proofs.Refusals.{Accepted, accepted, turned-away, as-written, BandsFor, no-bands, right-for-room, spread-long, spread-front, all-bands, writable}
 use borrow.Author.Needs.{needs}
 use Rattle.record_write.proofs.write_record.Statement.{statement}
 use Rattle.record_write.proofs.write_record.Tie as tie
 
-module _ (n : ℕ) (band rest : ℤ) (terms : List Term) (before : List ℕ) where
-  turned-away : (refusal : ℕ) → refusal ≡ packingRefusal n band rest terms → 0 < refusal → RecordWritten n band rest terms (record { refusal = refusal; count = 0 }) before before
-  turned-away refusal is some = record {
-    refusal-is = sym (rw (← is) (first-counts refusal _ some));
-    count-is = sym (granted-nothing refusal _ 0 some);
-    destination-is = ap (λ (written : List ℕ). laid written before) (sym (granted-nothing refusal _ [] some));
-  }
-
-  too-short : packingRefusal n band rest terms ≡ 0 → length before < recordLength (length terms) → RecordWritten n band rest terms (record { refusal = 6; count = 0 }) before before
-  too-short right short = record { refusal-is = rw (right, lt-ltb (length before) (recordLength (length terms)) short); count-is = refl; destination-is = refl }
-
-  record-over : (count : ℕ) (front : List ℕ) → packingRefusal n band rest terms ≡ 0 → count ≡ recordLength (length terms) → count ≤ length before
-      → front ≡ recordBytes n (natAbs band) rest terms → RecordWritten n band rest terms (record { refusal = 0; count = count }) before (front ++ drop count before)
-  record-over count front right count-is fits front-is =
-      let long : length (recordBytes n (natAbs band) rest terms) ≡ recordLength (length terms) = length-packed (recordLength (length terms)) (recordBits n (natAbs band) rest terms) in
-      record {
-        refusal-is = rw (right, le-ltb (length before) (recordLength (length terms)) (omega arith));
-        count-is = count-is;
-        destination-is = ap₂ (λ (l : List ℕ) (k : ℕ). l ++ drop k before) front-is (count-is ∙ sym long);
-      }
-
 refusal-answer : (c : tie.After-refuse)
-    → let args = c .before .before .before .args in
-    c .refuse .result ≡ packingRefusal (args .slots) (args .band) (args .rest) (paired (args .nodes .now) (args .values .now))
-refusal-answer c = rw (toZ-ofZ (c .before .before .before .fits .band), toZ-ofZ (c .before .before .before .fits .rest)) at (c .refuse .ensures)
+    → let a = c .before .before .before .before .before .args in
+    c .refuse .result ≡ packingRefusal (a .slots) (a .band) (a .rest) (paired (a .nodes .now) (a .values .now)) (specialSlots (a .specials .now) (a .own .now))
+refusal-answer c = rw (toZ-ofZ (c .before .before .before .before .before .fits .band), toZ-ofZ (c .before .before .before .before .before .fits .rest)) at (c .refuse .ensures)
 
-accepted-here : (c : tie.Else1) → let args = c .before .before .before .before .args in Accepted (args .slots) (args .band) (args .rest) (paired (args .nodes .now) (args .values .now))
-accepted-here c = accepted _ _ _ _ (refusal-answer (c .before)) (c .if1 .left)
+accepted-here : (c : tie.Else1)
+    → let a = c .before .before .before .before .before .before .args in
+    Accepted (a .slots) (a .band) (a .rest) (paired (a .nodes .now) (a .values .now)) (specialSlots (a .specials .now) (a .own .now))
+accepted-here c = accepted _ _ _ _ _ (refusal-answer (c .before)) (c .if1 .left)
 
-as-many-terms : (c : tie.Else1) → let args = c .before .before .before .before .args in length (paired (args .nodes .now) (args .values .now)) ≡ length (args .nodes .now)
-as-many-terms c = let start = c .before .before .before .before in length-paired (start .args .nodes .now) (start .args .values .now) (start .pre)
+-- with special slots: the room as long as before, and the bands as they were spread over its front
+room-here : (c : tie.After-spread) → let a = c .before .before .before .before .before .before .before .before .before .args in a .slots ≤ length (c .spread .last .1 .1 .1 .0 ++ drop (a .slots) (replicate 512 0))
+room-here c =
+    let start = c .before .before .before .before .before .before .before .before .before in
+    let a = start .args in
+    let long = spread-long (a .slots) (natAbs (a .band)) (specialSlots (a .specials .now) (a .own .now)) (c .spread .last .1 .1 .1 .0) (replicate 512 0) (accepted-here (c .before .before .before) .slots .few-slots)
+    (rw (toZ-ofZ (start .fits .band)) at (c .spread .ensures)) in
+    simp length-append (omega arith)
 
-few-nodes : (c : tie.Else1) → length (c .before .before .before .before .args .nodes .now) ≤ 1023
-few-nodes c = omega (arith, as-many-terms c, accepted-here c .few-terms)
+spread-here : (c : tie.After-spread)
+    → let a = c .before .before .before .before .before .before .before .before .before .args in
+    BandsFor (a .slots) (natAbs (a .band)) (a .specials .now) (a .own .now) (take (a .slots) (c .spread .last .1 .1 .1 .0 ++ drop (a .slots) (replicate 512 0)))
+spread-here c =
+    let start = c .before .before .before .before .before .before .before .before .before in
+    let a = start .args in
+    let right = accepted-here (c .before .before .before) in
+    let specials = specialSlots (a .specials .now) (a .own .now) in
+    all-bands (a .slots) (natAbs (a .band)) (a .specials .now) (a .own .now) _ (right .specials-right)
+    (spread-front (a .slots) (natAbs (a .band)) specials (c .spread .last .1 .1 .1 .0) (replicate 512 0) (right .slots .few-slots) (rw (toZ-ofZ (start .fits .band)) at (c .spread .ensures)))
 
-count-answer : (c : tie.After-record-length)
-    → let args = c .before .before .before .before .before .args in
-    c .record-length .result ≡ recordLength (length (paired (args .nodes .now) (args .values .now)))
-count-answer c = rw (as-many-terms (c .before)) (c .record-length .ensures)
+-- without special slots
+none-here : (c : tie.Then2) → let a = c .before .before .before .before .before .before .before .args in BandsFor (a .slots) (natAbs (a .band)) (a .specials .now) (a .own .now) (a .own .now)
+none-here c = let start = c .before .before .before .before .before .before .before in no-bands (start .args .slots) (natAbs (start .args .band)) (start .args .specials .now) (start .args .own .now) (start .pre .1) (c .if2 .taken)
 
 refuse-requires : tie.Need-refuse-requires
 refuse-requires c κs = search needs
 
 returns : tie.Need-returns
 returns c =
-    let a = c .before .before .before .before .args in
-    turned-away (a .slots) (a .band) (a .rest) _ (a .destination .now) (c .before .refuse .result) (refusal-answer (c .before)) (c .if1 .taken)
-
-record-length-requires : tie.Need-record-length-requires
-record-length-requires c κs = few-nodes c
-
-returns-2 : tie.Need-returns-2
-returns-2 c =
     let a = c .before .before .before .before .before .before .args in
-    too-short (a .slots) (a .band) (a .rest) _ (a .destination .now) (accepted-here (c .before .before) .not-refused) (rw (count-answer (c .before)) at (c .if2 .taken))
+    turned-away (a .slots) (a .band) (a .rest) _ _ (a .destination .now) (c .before .refuse .result) (refusal-answer (c .before)) (c .if1 .taken)
 
-cast-put-record : tie.Need-cast-put-record
-cast-put-record c =
-    let start = c .before .before .before .before .before .before in
-    let right = accepted-here (c .before .before) in
-    rw (toZ-ofZ (start .fits .band)) (right .band-from-zero, record { fits = omega (arith, right .band-within) })
+cast-common : tie.Need-cast-common
+cast-common c =
+    let right = accepted-here c in
+    rw (toZ-ofZ (c .before .before .before .before .before .before .fits .band)) (right .band-from-zero, record { fits = omega (arith, right .band-within) })
 
-cast-put-record-2 : tie.Need-cast-put-record-2
-cast-put-record-2 c = narrower-fits (c .before .before .before .before .before .before .fits .rest) (accepted-here (c .before .before) .rest-within)
+cast-write-for-bands : tie.Need-cast-write-for-bands
+cast-write-for-bands c = narrower-fits (c .before .before .before .before .before .before .before .fits .rest) (accepted-here (c .before) .rest-within)
 
-slice-relend-prefix-put-record : tie.Need-slice-relend-prefix-put-record
-slice-relend-prefix-put-record c = search needs
-
-slice-aggregate-put-record : tie.Need-slice-aggregate-put-record
-slice-aggregate-put-record c = sym (length-take-le _ (c .before .before .before .before .before .before .before .args .destination .now) (c .before .if2 .left))
-
-put-record-requires : tie.Need-put-record-requires
-put-record-requires c κs =
-    let start = c .before .before .before .before .before .before .before in
-    let a = start .args in
-    let right = accepted-here (c .before .before .before) in
-    record {
-      some-slot = right .slots .some-slot;
-      few-slots = right .slots .few-slots;
-      terms-fit = record {
-        same-length = start .pre;
-        nodes-fit = λ k. omega (arith, right .end-within, node-below (a .nodes .now) (a .values .now) (start .pre) (right .some-end) (right .terms-valid) k);
-        fill-fits = record {
-          few-terms = few-nodes (c .before .before .before);
-          just-room = length-take-le _ (a .destination .now) (c .before .if2 .left) ∙ c .before .before .record-length .ensures;
-        };
-      };
-    }
+write-for-bands-requires : tie.Need-write-for-bands-requires
+write-for-bands-requires c κs =
+    let start = c .before .before .before .before .before .before .before .before in
+    rw (toZ-ofZ (start .fits .band), ← c .before .if2 .taken) (writable (start .pre .0) (start .pre .1) (accepted-here (c .before .before)) (none-here (c .before)))
 
 same-length : tie.Need-same-length
 same-length c = search needs
 
+returns-2 : tie.Need-returns-2
+returns-2 c =
+    let start = c .before .before .before .before .before .before .before .before .before .before .before in
+    let a = start .args in
+    let right = accepted-here (c .before .before .before .before .before) in
+    let written = rw (toZ-ofZ (start .fits .band), narrower (start .fits .rest) (right .rest-within), none-here (c .before .before .before .before) .among) at (c .before .before .write-for-bands .ensures) in
+    as-written (a .slots) (a .band) (a .rest) _ _ (a .destination .now) right written
+
+array-borrow-prefix-bands : tie.Need-array-borrow-prefix-bands
+array-borrow-prefix-bands c = accepted-here (c .before) .slots .few-slots
+
+slice-aggregate-spread : tie.Need-slice-aggregate-spread
+slice-aggregate-spread c = sym (length-take-le _ _ (accepted-here (c .before .before) .slots .few-slots))
+
+spread-requires : tie.Need-spread-requires
+spread-requires c κs =
+    let start = c .before .before .before .before .before .before .before .before in
+    let right = accepted-here (c .before .before) in
+    right-for-room (start .args .slots) _ _ _ _ (right .slots .few-slots) (start .pre .1) (rw (toZ-ofZ (start .fits .band)) (right .specials-right))
+
+cast-write-for-bands-2 : tie.Need-cast-write-for-bands-2
+cast-write-for-bands-2 c = narrower-fits (c .before .before .before .before .before .before .before .before .before .before .fits .rest) (accepted-here (c .before .before .before .before) .rest-within)
+
+array-share-prefix-bands : tie.Need-array-share-prefix-bands
+array-share-prefix-bands c = room-here (c .before)
+
+slice-aggregate-write-for-bands : tie.Need-slice-aggregate-write-for-bands
+slice-aggregate-write-for-bands c = sym (length-take-le _ _ (room-here (c .before .before)))
+
+write-for-bands-requires-2 : tie.Need-write-for-bands-requires-2
+write-for-bands-requires-2 c κs =
+    let start = c .before .before .before .before .before .before .before .before .before .before .before .before in
+    rw (toZ-ofZ (start .fits .band)) (writable (start .pre .0) (start .pre .1) (accepted-here (c .before .before .before .before .before .before)) (spread-here (c .before .before .before)))
+
+same-length-2 : tie.Need-same-length-2
+same-length-2 c = search needs
+
 returns-3 : tie.Need-returns-3
 returns-3 c =
-    let start = c .before .before .before .before .before .before .before .before .before .before in
+    let start = c .before .before .before .before .before .before .before .before .before .before .before .before .before .before .before in
     let a = start .args in
-    let right = accepted-here (c .before .before .before .before .before .before) in
-    let front-is = rw (toZ-ofZ (start .fits .band), narrower (start .fits .rest) (right .rest-within)) at (c .before .before .put-record .ensures) in
-    record-over (a .slots) (a .band) (a .rest) _ (a .destination .now) (c .before .before .before .before .before .record-length .result) (c .before .before .put-record .last .1 .1 .1 .1 .1 .0)
-    (right .not-refused) (count-answer (c .before .before .before .before .before)) (c .before .before .before .before .if2 .left) front-is
+    let right = accepted-here (c .before .before .before .before .before .before .before .before .before) in
+    let written = rw (toZ-ofZ (start .fits .band), narrower (start .fits .rest) (right .rest-within), spread-here (c .before .before .before .before .before .before) .among) at (c .before .before .write-for-bands2 .ensures) in
+    as-written (a .slots) (a .band) (a .rest) _ _ (a .destination .now) right written
 
 pub write-record-spec : {M : Type 1} → statement M
 write-record-spec =
@@ -131,12 +125,17 @@ write-record-spec =
     (tie.spec
     refuse-requires
     returns
-    record-length-requires
-    returns-2
-    cast-put-record
-    cast-put-record-2
-    slice-relend-prefix-put-record
-    slice-aggregate-put-record
-    put-record-requires
+    cast-common
+    cast-write-for-bands
+    write-for-bands-requires
     same-length
+    returns-2
+    array-borrow-prefix-bands
+    slice-aggregate-spread
+    spread-requires
+    cast-write-for-bands-2
+    array-share-prefix-bands
+    slice-aggregate-write-for-bands
+    write-for-bands-requires-2
+    same-length-2
     returns-3)

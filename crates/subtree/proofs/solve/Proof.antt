@@ -7,7 +7,7 @@ use Rattle.subtree.proofs.solve.Tie as tie
 
 cast-slots : tie.Need-cast-slots
 cast-slots c =
-    omega (arith, c .pre .few-slots, pow-mono {i = c .args .height} {j = 9} (c .pre .in-tree))
+    omega (arith, c .before .pre .few-slots, pow-mono {i = c .before .args .height} {j = 9} (c .before .pre .in-tree))
 
 solve-part-requires : tie.Need-solve-part-requires
 solve-part-requires c κs = search needs

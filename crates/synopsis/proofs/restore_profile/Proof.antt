@@ -4,14 +4,15 @@ use denote.Struct.Laws as LL
 use Rattle.histogram.specs.Restoring.{ProfileRestored}
 use Rattle.synopsis.proofs.Answering.{Of, answers, lasting}
 use Rattle.synopsis.proofs.Many.{profile-restored}
-use Rattle.synopsis.specs.declared.Parts.{Parts}
+use Rattle.synopsis.specs.declared.parts.Parts.{Parts}
 use Rattle.synopsis.specs.Inner.{InRoom, termsOf}
 use Rattle.synopsis.proofs.Callees.{Take, takes}
-use Rattle.synopsis.proofs.Parts as K
-use Rattle.synopsis.proofs.Parts.Laws as K′
-use Rattle.synopsis.proofs.take_apart.Symbol as taken-def
-use Rattle.synopsis.proofs.take_apart.Symbol.{name as #synopsis·take-apart}
-use Rattle.synopsis.proofs.take_apart.Met as taken-thm
+use Rattle.synopsis.proofs.Sorts.{termSort}
+use Rattle.synopsis.proofs.parts.Parts as K
+use Rattle.synopsis.proofs.parts.Parts.Laws as K′
+use Rattle.synopsis.proofs.parts.take_apart.Symbol as taken-def
+use Rattle.synopsis.proofs.parts.take_apart.Symbol.{name as #synopsis·take-apart}
+use Rattle.synopsis.proofs.parts.take_apart.Met as taken-thm
 use Rattle.synopsis.proofs.restore_profile_of_parts as work
 use Rattle.synopsis.proofs.restore_profile_of_parts.Symbol as work-def
 use Rattle.synopsis.proofs.restore_profile_of_parts.Symbol.{name as #synopsis·restore-profile-of-parts}
@@ -86,14 +87,14 @@ module _ {M : Type 1} (𝓤 : URA M) (H : Heap 𝓤) (A : Atoms 𝓤) (W : Given
       nothing ! $ move ! (1 ∷ 0 ∷ []) $ join ! $ frame ! $ nothing ! $
       move ! (1 ∷ 0 ∷ []) $ fjoin ! $ owned ! K.the-row (Is K.the-row) ((LL.makes K.the-type K′.the-plain) 𝓤 H A) r _ is $ fjoin ! $ owned ! i32 (Is i32) (sint-makes 𝓤 H A W w32) rest _ is-rest $ fjoin ! $ owned ! usize (Is usize) (uint-makes 𝓤 H A W w64) slots _ is-slots $ fjoin ! $ done !
 
-  module _ (C : Calls 𝓤 H) (Λ : Loops 𝓤 H) (fm : FmC 𝓤 H (W .laws) C) (known-take : Triple 𝓤 (C #synopsis·take-apart) (Take 𝓤 H A mem run)) (known-work : Triple 𝓤 (C #synopsis·restore-profile-of-parts) (Work 𝓤 H A mem run)) where
+  module _ (C : Calls 𝓤 H) (Λ : Loops 𝓤 H) (fm : FmC 𝓤 H (W .laws) C) (known-take : Triple 𝓤 (C #synopsis·take-apart) (Take termSort 𝓤 H A)) (known-work : Triple 𝓤 (C #synopsis·restore-profile-of-parts) (Work 𝓤 H A mem run)) where
     walk : Is usize slots (vint w64 slots ∷ []) → Is i32 rest (vint w32 (ofZ w32 rest) ∷ []) → Room T.the-row n → Room i16 (length zs) → ent 𝓤 (onEntry 𝓤 H A f.signature (κ, (κ₁, tt)) (q, (q₁, tt)) x at) (WpFn 𝓤 H C Λ code.function (vint w64 slots ∷ vint w32 (ofZ w32 rest) ∷ vT ∷ vO ∷ []) Post)
     walk is-slots is-rest roomT roomO =
         qed W ((‵ (flft κ q) ⊛ (‵ (flft κ₁ q₁) ⊛ ‵ ftrue)) ∷ ‵ (owns (usize ∷ i32 ∷ ShrSlice (named 0) κ T.the-row ∷ MutSlice (named 1) κ₁ i16 ∷ []) x at) ∷ []) ∵
         split ! $ move ! (1 ∷ []) $ split ! $ move ! (3 ∷ []) $ fsplit ! $ move ! (1 ∷ []) $ fsplit ! $ move ! (1 ∷ []) $ fsplit ! $ move ! (1 ∷ []) $ fsplit ! $ keep ! (7 ∷ 2 ∷ 5 ∷ 0 ∷ []) $ enter ! C Λ code.function (vint w64 slots ∷ vint w32 (ofZ w32 rest) ∷ vT ∷ vO ∷ []) _ $
         alloc1 ! (λ l₀. alloc1 ! (λ l₁. alloc1 ! (λ l₂. alloc1 ! (λ l₃. alloc1 ! (λ l₄. alloc1 ! (λ l₅. alloc1 ! (λ l₆. alloc1 ! (λ l₇. alloc0 ! $ params1 ! $
         pass1 ! (init ! 12 refl (tt, record { fits = is-slots .1 })) $ pass1 ! (init ! 10 refl (tt, ofZ-fits w32 rest (record { sfits = is-rest .1 }))) $ pass1 ! (init ! 8 refl (tt, (tt, (record { fits = roomT .0 }, tt)))) $ pass1 ! (init ! 6 refl (tt, (tt, (record { fits = roomO .0 }, tt)))) $ pass0 ! $
-        move ! (16 ∷ 17 ∷ []) $ takes ! fm mem run known-take κ q b o γ ys (λ j. and-then ! (load ! (from ! (stop !)) (look ! 10 refl)) (no-more !)) (λ u r of-terms is.
+        move ! (16 ∷ 17 ∷ []) $ takes termSort ! fm #synopsis·take-apart known-take κ q b o γ ys (λ j. and-then ! (load ! (from ! (stop !)) (look ! 10 refl)) (no-more !)) (λ u r of-terms is.
         land ! (from ! (stop !)) (init ! 6 refl (LL.lawful K.the-type K′.the-laws 𝓤 H A W .typed r _ is .0)) $
         assigns ! (addr ! (from ! (fld ! refl (hop ! (look-in ! 8 (sub ! 0 refl (whole !))) (stop !))))) (from ! (stop !)) (init ! 4 refl (tt, tt)) $
         assigns ! (agg ! (and-then ! (load ! (from ! (stop !)) (look ! 4 refl)) (and-then ! (load ! (from ! (fld ! refl (stop !))) (look-in ! 8 (sub ! 1 refl (whole !)))) (no-more !)))) (from ! (stop !)) (init ! 2 refl (tt, (tt, (record { fits = roomO .0 }, tt)))) $
@@ -104,7 +105,7 @@ module _ {M : Type 1} (𝓤 : URA M) (H : Heap 𝓤) (A : Atoms 𝓤) (W : Given
         move ! (19 ∷ 20 ∷ []) $ free1 ! $ move ! (17 ∷ 18 ∷ []) $ free1 ! $ move ! (15 ∷ 16 ∷ []) $ free1 ! $ move ! (13 ∷ 14 ∷ []) $ free1 ! $ move ! (11 ∷ 12 ∷ []) $ free1 ! $ move ! (9 ∷ 10 ∷ []) $ free1 ! $ move ! (7 ∷ 8 ∷ []) $ free1 ! $ move ! (5 ∷ 6 ∷ []) $ free1 ! $ free0 ! $
         by ! (exits a w (ws .1 .1 .1 .0) lz is-slots is-rest (profile-restored ys r of-terms slots rest a zs (ws .1 .1 .1 .0) said)))))))))))))
 
-module _ {M : Type 1} (𝓤 : URA M) (H : Heap 𝓤) (A : Atoms 𝓤) (W : Given 𝓤 H A) (mem : Memory → SProp 𝓤) (run : Routine → Fun 𝓤) (𝓣 : Tables 𝓤 H) (known-take : Triple 𝓤 (𝓣 .C #synopsis·take-apart) (Take 𝓤 H A mem run)) (known-work : Triple 𝓤 (𝓣 .C #synopsis·restore-profile-of-parts) (Work 𝓤 H A mem run)) where
+module _ {M : Type 1} (𝓤 : URA M) (H : Heap 𝓤) (A : Atoms 𝓤) (W : Given 𝓤 H A) (mem : Memory → SProp 𝓤) (run : Routine → Fun 𝓤) (𝓣 : Tables 𝓤 H) (known-take : Triple 𝓤 (𝓣 .C #synopsis·take-apart) (Take termSort 𝓤 H A)) (known-work : Triple 𝓤 (𝓣 .C #synopsis·restore-profile-of-parts) (Work 𝓤 H A mem run)) where
   walks : Walks 𝓤 H A f.ended stayed (WpFn 𝓤 H (𝓣 .C) (𝓣 .Λ) code.function) (f.clauses 𝓤 H A mem run)
   walks = walked 𝓤 H A f.ended stayed (f.clauses 𝓤 H A mem run) (WpFn 𝓤 H (𝓣 .C) (𝓣 .Λ) code.function) (λ κs. (uint-vals w64, (sint-vals w32, (slice-vals, (slice-vals, tt))))) (λ κs. (uint-tells w64, (sint-tells w32, (shr-slice-tells (named 0) (κs .0) T.the-row, (mut-slice-tells (named 1) (κs .1 .0) i16, tt)))))
       (λ κs qs bounds a g are. via 𝓤 _ (fst∗ 𝓤 _ (emp 𝓤))
@@ -119,5 +120,5 @@ restore-profile-spec 𝓤 H 𝓜 𝓖 𝓡 =
     entered 𝓤 H (tripleOf 𝓤 H (𝓖 .A) f.signature (f.spec 𝓤 H (𝓖 .A) (𝓜 .mem) (𝓡 .run)))
     (tables 𝓤 H 𝓜 𝓡 code.env .C) (tables 𝓤 H 𝓜 𝓡 code.env .Λ) #synopsis·restore-profile code.function (code.unfolded 𝓤 H 𝓜 𝓡)
     (meets 𝓤 H (𝓖 .A) (givenOf 𝓤 H 𝓜 𝓖) (𝓜 .mem) (𝓡 .run) (tablesOf 𝓤 H 𝓜 (tables 𝓤 H 𝓜 𝓡 code.env))
-    (cited 𝓤 H (Take 𝓤 H (𝓖 .A) (𝓜 .mem) (𝓡 .run)) 𝓜 𝓡 code.env #synopsis·take-apart taken-def.routine code.calls-synopsis·take-apart (taken-thm.met 𝓤 H 𝓜 𝓖 𝓡))
+    (cited 𝓤 H (Take termSort 𝓤 H (𝓖 .A)) 𝓜 𝓡 code.env #synopsis·take-apart taken-def.routine code.calls-synopsis·parts·take-apart (taken-thm.met 𝓤 H 𝓜 𝓖 𝓡))
     (cited 𝓤 H (Work 𝓤 H (𝓖 .A) (𝓜 .mem) (𝓡 .run)) 𝓜 𝓡 code.env #synopsis·restore-profile-of-parts work-def.routine code.calls-synopsis·restore-profile-of-parts (work-thm.met 𝓤 H 𝓜 𝓖 𝓡)))

@@ -7,14 +7,15 @@ use Rattle.histogram.proofs.restore.SlotAnswer as Q
 use Rattle.histogram.proofs.restore.SlotAnswer.Laws as Q′
 use Rattle.synopsis.proofs.Answering.{Of, answers}
 use Rattle.synopsis.proofs.Many.{slot-restored}
-use Rattle.synopsis.specs.declared.Parts.{Parts}
+use Rattle.synopsis.specs.declared.parts.Parts.{Parts}
 use Rattle.synopsis.specs.Inner.{InRoom, termsOf}
 use Rattle.synopsis.proofs.Callees.{Take, takes}
-use Rattle.synopsis.proofs.Parts as K
-use Rattle.synopsis.proofs.Parts.Laws as K′
-use Rattle.synopsis.proofs.take_apart.Symbol as taken-def
-use Rattle.synopsis.proofs.take_apart.Symbol.{name as #synopsis·take-apart}
-use Rattle.synopsis.proofs.take_apart.Met as taken-thm
+use Rattle.synopsis.proofs.Sorts.{termSort}
+use Rattle.synopsis.proofs.parts.Parts as K
+use Rattle.synopsis.proofs.parts.Parts.Laws as K′
+use Rattle.synopsis.proofs.parts.take_apart.Symbol as taken-def
+use Rattle.synopsis.proofs.parts.take_apart.Symbol.{name as #synopsis·take-apart}
+use Rattle.synopsis.proofs.parts.take_apart.Met as taken-thm
 use Rattle.synopsis.proofs.restore_slot_of_parts as work
 use Rattle.synopsis.proofs.restore_slot_of_parts.Symbol as work-def
 use Rattle.synopsis.proofs.restore_slot_of_parts.Symbol.{name as #synopsis·restore-slot-of-parts}
@@ -80,14 +81,14 @@ module _ {M : Type 1} (𝓤 : URA M) (H : Heap 𝓤) (A : Atoms 𝓤) (W : Given
       nothing ! $ move ! (1 ∷ []) $ frame ! $
       owned ! usize (Is usize) (uint-makes 𝓤 H A W w64) slot _ is-slot $ fjoin ! $ owned ! K.the-row (Is K.the-row) ((LL.makes K.the-type K′.the-plain) 𝓤 H A) r _ is $ fjoin ! $ owned ! i32 (Is i32) (sint-makes 𝓤 H A W w32) rest _ is-rest $ fjoin ! $ owned ! usize (Is usize) (uint-makes 𝓤 H A W w64) slots _ is-slots $ fjoin ! $ done !
 
-  module _ (C : Calls 𝓤 H) (Λ : Loops 𝓤 H) (fm : FmC 𝓤 H (W .laws) C) (known-take : Triple 𝓤 (C #synopsis·take-apart) (Take 𝓤 H A mem run)) (known-work : Triple 𝓤 (C #synopsis·restore-slot-of-parts) (Work 𝓤 H A mem run)) where
+  module _ (C : Calls 𝓤 H) (Λ : Loops 𝓤 H) (fm : FmC 𝓤 H (W .laws) C) (known-take : Triple 𝓤 (C #synopsis·take-apart) (Take termSort 𝓤 H A)) (known-work : Triple 𝓤 (C #synopsis·restore-slot-of-parts) (Work 𝓤 H A mem run)) where
     walk : Is usize slots (vint w64 slots ∷ []) → Is i32 rest (vint w32 (ofZ w32 rest) ∷ []) → Room T.the-row n → Is usize slot (vint w64 slot ∷ []) → ent 𝓤 (onEntry 𝓤 H A f.signature (κ, tt) (q, tt) x at) (WpFn 𝓤 H C Λ code.function (vint w64 slots ∷ vint w32 (ofZ w32 rest) ∷ vT ∷ vint w64 slot ∷ []) Post)
     walk is-slots is-rest roomT is-slot =
         qed W ((‵ (flft κ q) ⊛ ‵ ftrue) ∷ ‵ (owns (usize ∷ i32 ∷ ShrSlice (named 0) κ T.the-row ∷ usize ∷ []) x at) ∷ []) ∵
         split ! $ move ! (2 ∷ []) $ fsplit ! $ move ! (1 ∷ []) $ fsplit ! $ move ! (1 ∷ []) $ fsplit ! $ keep ! (4 ∷ 0 ∷ []) $ enter ! C Λ code.function (vint w64 slots ∷ vint w32 (ofZ w32 rest) ∷ vT ∷ vint w64 slot ∷ []) _ $
         alloc1 ! (λ l₀. alloc1 ! (λ l₁. alloc1 ! (λ l₂. alloc1 ! (λ l₃. alloc1 ! (λ l₄. alloc1 ! (λ l₅. alloc0 ! $ params1 ! $
         pass1 ! (init ! 8 refl (tt, record { fits = is-slots .1 })) $ pass1 ! (init ! 6 refl (tt, ofZ-fits w32 rest (record { sfits = is-rest .1 }))) $ pass1 ! (init ! 4 refl (tt, (tt, (record { fits = roomT .0 }, tt)))) $ pass1 ! (init ! 2 refl (tt, record { fits = is-slot .1 })) $ pass0 ! $
-        move ! (12 ∷ 13 ∷ []) $ takes ! fm mem run known-take κ q b o γ ys (λ j. and-then ! (load ! (from ! (stop !)) (look ! 6 refl)) (no-more !)) (λ u r of-terms is.
+        move ! (12 ∷ 13 ∷ []) $ takes termSort ! fm #synopsis·take-apart known-take κ q b o γ ys (λ j. and-then ! (load ! (from ! (stop !)) (look ! 6 refl)) (no-more !)) (λ u r of-terms is.
         land ! (from ! (stop !)) (init ! 2 refl (LL.lawful K.the-type K′.the-laws 𝓤 H A W .typed r _ is .0)) $
         nothing ! $ use1 W (raw (Work 𝓤 H A mem run .pre (to-work r u))) (goes-work r u is (of-terms .within) is-slots is-rest is-slot) $
         answers ! fm work.ended (work.clauses 𝓤 H A mem run) known-work (to-work r u) (‵ ftrue) (id⊢ 𝓤 _) (λ a _. Said (termsOf r) a) (λ a ws. id⊢ 𝓤 _) (and-then ! (load ! (from ! (stop !)) (look ! 11 refl)) (and-then ! (load ! (from ! (stop !)) (look ! 9 refl)) (and-then ! (load ! (from ! (stop !)) (look ! 3 refl)) (and-then ! (load ! (from ! (stop !)) (look ! 5 refl)) (no-more !))))) (λ w a _ said isA.
@@ -95,7 +96,7 @@ module _ {M : Type 1} (𝓤 : URA M) (H : Heap 𝓤) (A : Atoms 𝓤) (W : Given
         returns ! (look ! 13 refl) $ forget ! 13 refl $ forget ! 11 refl $ forget ! 9 refl $ forget ! 7 refl $ forget ! 5 refl $ forget ! 3 refl $ move ! (13 ∷ 14 ∷ []) $ free1 ! $ move ! (11 ∷ 12 ∷ []) $ free1 ! $ move ! (9 ∷ 10 ∷ []) $ free1 ! $ move ! (7 ∷ 8 ∷ []) $ free1 ! $ move ! (5 ∷ 6 ∷ []) $ free1 ! $ move ! (3 ∷ 4 ∷ []) $ free1 ! $ free0 ! $
         by ! (exits a w is-slots is-rest is-slot (slot-restored ys r of-terms slots rest slot (a .refusal) (a .setpoint) said))))))))))
 
-module _ {M : Type 1} (𝓤 : URA M) (H : Heap 𝓤) (A : Atoms 𝓤) (W : Given 𝓤 H A) (mem : Memory → SProp 𝓤) (run : Routine → Fun 𝓤) (𝓣 : Tables 𝓤 H) (known-take : Triple 𝓤 (𝓣 .C #synopsis·take-apart) (Take 𝓤 H A mem run)) (known-work : Triple 𝓤 (𝓣 .C #synopsis·restore-slot-of-parts) (Work 𝓤 H A mem run)) where
+module _ {M : Type 1} (𝓤 : URA M) (H : Heap 𝓤) (A : Atoms 𝓤) (W : Given 𝓤 H A) (mem : Memory → SProp 𝓤) (run : Routine → Fun 𝓤) (𝓣 : Tables 𝓤 H) (known-take : Triple 𝓤 (𝓣 .C #synopsis·take-apart) (Take termSort 𝓤 H A)) (known-work : Triple 𝓤 (𝓣 .C #synopsis·restore-slot-of-parts) (Work 𝓤 H A mem run)) where
   walks : Walks 𝓤 H A f.ended stayed (WpFn 𝓤 H (𝓣 .C) (𝓣 .Λ) code.function) (f.clauses 𝓤 H A mem run)
   walks = walked 𝓤 H A f.ended stayed (f.clauses 𝓤 H A mem run) (WpFn 𝓤 H (𝓣 .C) (𝓣 .Λ) code.function) (λ κs. (uint-vals w64, (sint-vals w32, (slice-vals, (uint-vals w64, tt))))) (λ κs. (uint-tells w64, (sint-tells w32, (shr-slice-tells (named 0) (κs .0) T.the-row, (uint-tells w64, tt)))))
       (λ κs qs bounds a g are. via 𝓤 _ (fst∗ 𝓤 _ (emp 𝓤))
@@ -110,5 +111,5 @@ restore-slot-spec 𝓤 H 𝓜 𝓖 𝓡 =
     entered 𝓤 H (tripleOf 𝓤 H (𝓖 .A) f.signature (f.spec 𝓤 H (𝓖 .A) (𝓜 .mem) (𝓡 .run)))
     (tables 𝓤 H 𝓜 𝓡 code.env .C) (tables 𝓤 H 𝓜 𝓡 code.env .Λ) #synopsis·restore-slot code.function (code.unfolded 𝓤 H 𝓜 𝓡)
     (meets 𝓤 H (𝓖 .A) (givenOf 𝓤 H 𝓜 𝓖) (𝓜 .mem) (𝓡 .run) (tablesOf 𝓤 H 𝓜 (tables 𝓤 H 𝓜 𝓡 code.env))
-    (cited 𝓤 H (Take 𝓤 H (𝓖 .A) (𝓜 .mem) (𝓡 .run)) 𝓜 𝓡 code.env #synopsis·take-apart taken-def.routine code.calls-synopsis·take-apart (taken-thm.met 𝓤 H 𝓜 𝓖 𝓡))
+    (cited 𝓤 H (Take termSort 𝓤 H (𝓖 .A)) 𝓜 𝓡 code.env #synopsis·take-apart taken-def.routine code.calls-synopsis·parts·take-apart (taken-thm.met 𝓤 H 𝓜 𝓖 𝓡))
     (cited 𝓤 H (Work 𝓤 H (𝓖 .A) (𝓜 .mem) (𝓡 .run)) 𝓜 𝓡 code.env #synopsis·restore-slot-of-parts work-def.routine code.calls-synopsis·restore-slot-of-parts (work-thm.met 𝓤 H 𝓜 𝓖 𝓡)))

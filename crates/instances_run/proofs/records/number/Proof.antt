@@ -7,25 +7,25 @@ use Rattle.instances_run.proofs.records.number.Statement.{statement}
 use Rattle.instances_run.proofs.records.number.Tie as tie
 
 abbrev Inv-loop : tie.InvT-loop
-Inv-loop nodes₀ i₀ nodes i = length nodes ≡ length nodes₀
+Inv-loop first places₀ i₀ places i = length places ≡ length places₀
 
 abbrev μ-loop : tie.MeasureT-loop
-μ-loop nodes₀ i₀ nodes i = length nodes₀ - i
+μ-loop first places₀ i₀ places i = length places₀ - i
 
 loop-holds : tie.Need-loop-holds Inv-loop μ-loop
 loop-holds c = search needs
 
-add-nodes : tie.Need-add-nodes Inv-loop μ-loop
-add-nodes c = search needs
+add-places : tie.Need-add-places Inv-loop μ-loop
+add-places c = search needs
 
-cast-nodes : tie.Need-cast-nodes Inv-loop μ-loop
-cast-nodes c = search needs
+cast-places : tie.Need-cast-places Inv-loop μ-loop
+cast-places c = search needs
 
-mul-nodes : tie.Need-mul-nodes Inv-loop μ-loop
-mul-nodes c = search needs
+mul-places : tie.Need-mul-places Inv-loop μ-loop
+mul-places c = search needs
 
-slice-write-nodes : tie.Need-slice-write-nodes Inv-loop μ-loop
-slice-write-nodes c = search needs
+slice-write-places : tie.Need-slice-write-places Inv-loop μ-loop
+slice-write-places c = search needs
 
 add-i : tie.Need-add-i Inv-loop μ-loop
 add-i c = search needs
@@ -49,10 +49,10 @@ number-spec =
     Inv-loop
     μ-loop
     loop-holds
-    add-nodes
-    cast-nodes
-    mul-nodes
-    slice-write-nodes
+    add-places
+    cast-places
+    mul-places
+    slice-write-places
     add-i
     loop-less
     loop-again

@@ -1,4 +1,5 @@
 -- `subtree::leaves::write_leaf` meets its contract.
+use Prim.Native.Nat.{_-_}
 use mir.Facts.{toZ-ofZ}
 use Rattle.subtree.proofs.LeafAnswers.{leaf-solved}
 use borrow.Author.Needs.{needs}
@@ -18,7 +19,7 @@ returns : tie.Need-returns
 returns c =
     let start = c .before .before .before .before in
     let ends = c .before .before .slot-ends in
-    leaf-solved (start .args .band) (start .args .setpoint) (ends .result .low) (ends .result .high) (start .args .scratch .now) (c .before .write-single .last .0)
+    leaf-solved (start .args .own - start .args .margin) (start .args .setpoint) (ends .result .low) (ends .result .high) (start .args .scratch .now) (c .before .write-single .last .0)
     (rw (toZ-ofZ (start .fits .setpoint)) at (ends .ensures)) (c .before .write-single .ensures)
 
 pub write-leaf-spec : {M : Type 1} → statement M

@@ -1,4 +1,5 @@
 -- `subtree::leaves::write_pair` meets its contract.
+use Prim.Native.Nat.{_-_}
 use mir.Facts.{toZ-ofZ}
 use Rattle.subtree.proofs.Pairs.{pair-solved}
 use borrow.Author.Needs.{needs}
@@ -11,11 +12,8 @@ slot-ends-requires c κs = search needs
 slot-ends-requires-2 : tie.Need-slot-ends-requires-2
 slot-ends-requires-2 c κs = search needs
 
-write-single-requires : tie.Need-write-single-requires
-write-single-requires c κs = search needs
-
-write-single-requires-2 : tie.Need-write-single-requires-2
-write-single-requires-2 c κs = search needs
+write-leaves-requires : tie.Need-write-leaves-requires
+write-leaves-requires c κs = search needs
 
 combine-singles-requires : tie.Need-combine-singles-requires
 combine-singles-requires c κs = search needs
@@ -25,15 +23,14 @@ same-length c = search needs
 
 returns : tie.Need-returns
 returns c =
-    let start = c .before .before .before .before .before .before .before .before .before .before .before in
+    let start = c .before .before .before .before .before .before .before .before in
     let a = start .args in
-    let left = c .before .before .before .before .before .before .before .before .before .before .slot-ends in
-    let right = c .before .before .before .before .before .before .before .before .before .slot-ends2 in
-    let first = c .before .before .before .before .before .before .before .write-single in
-    let second = c .before .before .before .before .write-single2 in
+    let left = c .before .before .before .before .before .before .before .slot-ends in
+    let right = c .before .before .before .before .before .before .slot-ends2 in
+    let leaves = c .before .before .before .before .write-leaves in
     let both = c .before .combine-singles in
-    pair-solved (a .band) (a .left) (a .right) (left .result .low) (left .result .high) (right .result .low) (right .result .high)
-    (a .scratch .now) (first .last .0) (second .last .0) (both .last .0) (rw (toZ-ofZ (start .fits .left)) at (left .ensures)) (rw (toZ-ofZ (start .fits .right)) at (right .ensures)) (first .ensures) (second .ensures) (both .ensures)
+    pair-solved (a .own - a .margin) (a .other - a .margin) (a .left) (a .right) (left .result .low) (left .result .high) (right .result .low) (right .result .high) (leaves .last .0) (both .last .0)
+    (rw (toZ-ofZ (start .fits .left)) at (left .ensures)) (rw (toZ-ofZ (start .fits .right)) at (right .ensures)) (leaves .ensures) (both .ensures)
 
 pub write-pair-spec : {M : Type 1} → statement M
 write-pair-spec =
@@ -41,8 +38,7 @@ write-pair-spec =
     (tie.spec
     slot-ends-requires
     slot-ends-requires-2
-    write-single-requires
-    write-single-requires-2
+    write-leaves-requires
     combine-singles-requires
     same-length
     returns)
