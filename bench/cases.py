@@ -1,6 +1,7 @@
 """The benchmark's requests: what each call is asked, for bench/run on this machine and for firmware/test on the panel's core.
 
-Reading a text is counted by a call that has nothing else to do: the least band for a budget of 1,024, refused with 5 once the text is read.
+Reading a text is counted by a call that has nothing else to do: the least band for a budget of 1,024, refused with 5 once the text is read,
+or with 12 where it has special slots.
 The better of two offers has rows beside it for reading its text and checking its two records.
 """
 import pathlib
@@ -24,15 +25,23 @@ def typed(value):
     return b"%s%d,%02d" % (b"-" if value < 0 else b"", abs(value) // 100, abs(value) % 100)
 
 
-def profile(band, setpoints, rest=1400):
-    return b"".join(typed(value) + b"\n" for value in [rest, band] + setpoints)
+def profile(band, setpoints, rest=1400, own=()):
+    """A profile's text; the first slots have these bands of their own."""
+    lines = [typed(value) for value in [rest, band] + setpoints]
+    for slot, own_band in enumerate(own):
+        lines[2 + slot] += b" " + typed(own_band)
+    return b"".join(line + b"\n" for line in lines)
 
 
-def packed(slots, band, rest, terms):
-    """A record, by document 01's table of fields."""
-    fields = [(1, 4), (slots - 1, 9), (band, 16), (rest, 16), (len(terms), 10)]
+def packed(slots, band, rest, terms, specials=()):
+    """A record, by document 01's table of fields and what document 02's F-6 adds to it."""
+    fields = [(2 if specials else 1, 4), (slots - 1, 9), (band, 16), (rest, 16), (len(terms), 10)]
     for node, value in terms:
         fields += [(node, 10), (value, 16)]
+    if specials:
+        fields.append((len(specials), 10))
+    for slot, own_band in specials:
+        fields += [(slot, 9), (own_band, 16)]
     bits = "".join(format(number % (1 << width), f"0{width}b") for number, width in fields)
     bits += "0" * (-len(bits) % 8)
     return bytes(int(bits[at:at + 8], 2) for at in range(0, len(bits), 8))
@@ -71,7 +80,18 @@ def builds():
                         ("512 extremes", 0), ("512 extremes", 40000), ("300 random", 25), ("512 evenly spread", 38),
                         *[(first_of_random(slots), 25) for slots in FIRST_SLOTS]]:
         cases.append(Case(f"build {shape}, band {typed(band).decode()}", "text_to_record", text=profile(band, setpoints[shape])))
+    for slots, own in own_bands().items():
+        cases.append(Case(f"build {WHOLE}, own bands in {slots}", "text_to_record", text=profile(300, setpoints[WHOLE], own=own)))
     return cases
+
+
+def own_bands():
+    """Bands for the first slots, beside a common band of 3,00: around it in all slots, and tighter ones in 24."""
+    rng = random.Random(6)
+    return {
+        512: [rng.choice([rng.randrange(200, 300), rng.randrange(301, 401)]) for _ in range(512)],
+        24: [rng.randrange(20, 51) for _ in range(24)],
+    }
 
 
 def readings():
@@ -83,20 +103,33 @@ def readings():
         "long lines": [b"-199,99"] * 512,
         "the longest lines": [b"-199,994"] * 512,
         "the shortest lines": [b"0"] * 512,
+        "long lines with the common band as own": [b"-199,994 000,254"] * 512,
+        "the longest lines with own bands": [b"-199,994 -000,004"] * 512,
     }
-    return [reading(name, b"\n".join([b"14,00", b"0,25", *setpoints, b""])) for name, setpoints in lines.items()]
+    texts = {name: b"\n".join([b"14,00", b"0,25", *setpoints, b""]) for name, setpoints in lines.items()}
+    return [reading(name, text, 12 if name == "the longest lines with own bands" else 5) for name, text in texts.items()]
 
 
-def reading(name, text):
-    return Case(f"read {name}", "least_band_of_text", 1024, text, refusal=5)
+def reading(name, text, refusal=5):
+    return Case(f"read {name}", "least_band_of_text", 1024, text, refusal=refusal)
+
+
+def terms_on_all_nodes(rng):
+    return [(node, rng.randrange(-20000, 20001)) for node in range(1, 1024)]
+
+
+# A band that is not the common one of 400,00, in every slot: no error of the offers and checks exceeds it.
+WIDE_SPECIALS = [(slot, 39999) for slot in range(512)]
 
 
 def offers(setpoints):
     """Two offers for one text, and what is read and checked for them: the longest records, one of them beside the shortest, and one twice."""
     rng = random.Random(1)
-    first, second = [packed(512, 40000, 0, [(node, rng.randrange(-20000, 20001)) for node in range(1, 1024)]) for _ in range(2)]
+    first, second = [packed(512, 40000, 0, terms_on_all_nodes(rng)) for _ in range(2)]
     shortest = packed(512, 40000, 0, [])
     text = profile(40000, setpoints, rest=0)
+    first_2, second_2 = [packed(512, 40000, 0, terms_on_all_nodes(rng), WIDE_SPECIALS) for _ in range(2)]
+    text_2 = profile(40000, setpoints, rest=0, own=[own_band for _, own_band in WIDE_SPECIALS])
     noisy = (EXAMPLES / "noisy.txt").read_bytes()
     return [
         Case("two offers, 1,023 terms", "better_offer", text=text, record=first, second=second),
@@ -107,19 +140,27 @@ def offers(setpoints):
         Case("check the first offer, 1,023 terms", "record_against_text", text=text, record=first),
         Case("check the second offer, 1,023 terms", "record_against_text", text=text, record=second),
         Case("check the offer of no terms", "record_against_text", text=text, record=shortest),
+        Case("two offers, 1,023 terms and 512 special slots", "better_offer", text=text_2, record=first_2, second=second_2),
+        reading("the text of 512 special slots", text_2, refusal=12),
+        Case("check the first offer, 512 special slots", "record_against_text", text=text_2, record=first_2),
+        Case("check the second offer, 512 special slots", "record_against_text", text=text_2, record=second_2),
     ]
 
 
 def other_calls():
     """The calls that build nothing."""
     rng = random.Random(1023)
-    full = packed(512, 40000, 0, [(node, rng.randrange(-20000, 20001)) for node in range(1, 1024)])
+    full = packed(512, 40000, 0, terms_on_all_nodes(rng))
+    largest = packed(512, 40000, 0, terms_on_all_nodes(rng), WIDE_SPECIALS)
     noisy = (EXAMPLES / "noisy.txt").read_bytes()
     setpoints = shapes()
     cases = [
         Case("one slot, 1,023 terms", "record_slot", 511, record=full),
+        Case("one slot, 1,023 terms and 512 special slots", "record_slot", 511, record=largest),
         Case("one slot, noisy.txt", "record_slot", 300, record="build noisy.txt"),
         Case("check 512 random, 1,023 terms", "record_against_text", text=profile(0, setpoints["512 random"]), record=full),
+        Case("check 512 random, 1,023 terms and 512 special slots", "record_against_text", text=profile(0, setpoints["512 random"]),
+             record=largest),
         Case("check 512 random, band 3,00", "record_against_text", text=profile(300, setpoints["512 random"]),
              record="build 512 random, band 3,00"),
         Case("check noisy.txt", "record_against_text", text=noisy, record="build noisy.txt"),

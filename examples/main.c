@@ -1,5 +1,6 @@
 /* A first program on the burner panel's library: profile text to record, slots read back, the record
  * checked against its text, the least band for a few budgets, and the better of two offers.
+ * A profile with special slots has no least band, and its record is a version 2.
  *
  *     main            the profiles below, and a text that is refused
  *     main FILE       the profile text in a file
@@ -12,6 +13,8 @@
 static const char EMBEDDED[] = "14,00\n0,25\n14,10\n13,90\n20,00\n19,50\n";
 /* Three synopses of two terms restore it exactly: terms at nodes 1 and 3, 1 and 2, or 2 and 3. Every panel sends the first. */
 static const char SEVERAL[] = "0,50\n0,49\n0,00\n1,00\n";
+/* The embedded profile with a tighter band in slot 2: it takes a term more, and the control room's offer below is none for it. */
+static const char OWN_BAND[] = "14,00\n0,25\n14,10\n13,90\n20,00 0,10\n19,50\n";
 static const char FAULTY[] = "14,00\n0,25\n14,10\n13,\n";
 
 /* What the line has left in the control room's buffer: a record for the profile above, and bytes behind it. */
@@ -25,9 +28,9 @@ static const char *meaning(enum panel_refusal refusal)
 {
     switch (refusal) {
     case PANEL_GRANTED: return "granted";
-    case PANEL_NOT_A_NUMBER: return "a line is not a number";
+    case PANEL_NOT_A_NUMBER: return "a field of a line is not a number";
     case PANEL_VALUE_BEYOND: return "a value is beyond 200,00";
-    case PANEL_BAND_BEYOND: return "the band is not in 0,00 to 400,00";
+    case PANEL_BAND_BEYOND: return "a band is not in 0,00 to 400,00";
     case PANEL_SLOTS_BEYOND: return "there are no setpoints, or more than 512";
     case PANEL_BUDGET_BEYOND: return "the budget is above 1,023";
     case PANEL_OUTPUT_SHORT: return "the record does not fit";
@@ -35,6 +38,8 @@ static const char *meaning(enum panel_refusal refusal)
     case PANEL_TERMS_WRONG: return "the record's terms are wrong";
     case PANEL_LENGTH_DIFFERS: return "the record is for another number of slots";
     case PANEL_NO_SUCH_SLOT: return "there is no such slot";
+    case PANEL_SPECIALS_WRONG: return "the record's special slots are wrong";
+    case PANEL_HAS_SPECIALS: return "a profile with special slots has no least band";
     }
     return "unknown";
 }
@@ -73,6 +78,8 @@ static size_t build(size_t text_len)
     printf("\nfirst bytes:");
     print_bytes(record, length);
     printf("\n");
+    if (length > PANEL_RECORD_BYTES(panel_terms(built), 0))
+        printf("version %u: the bands of special slots stand behind the terms\n", (unsigned)record[0] >> 4);
     return length;
 }
 
@@ -187,5 +194,6 @@ int main(int argc, char **argv)
         return fire_file(argv[1]);
     fire_embedded("faulty", FAULTY);
     fire_embedded("several", SEVERAL);
+    fire_embedded("own band", OWN_BAND);
     return fire_embedded("embedded", EMBEDDED);
 }

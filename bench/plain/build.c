@@ -2,10 +2,14 @@
  *
  * Both go by sets of values, as sorted windows, from the slots up to the root: the values that can come in
  * from above without a term more. A node's set is what is in both of its children's sets; where they do not
- * meet it is what is in either, and the node costs a term. The least band is found by halving.
+ * meet it is what is in either, and the node costs a term. A slot's window is its setpoint with its band less a margin on
+ * either side. The greatest margin that so many terms can leave is found by halving.
  * A node with no slot below it accepts every value; of these only the first of each level is looked at.
  */
 #include "parts.h"
+
+#include <stdlib.h>
+#include <string.h>
 
 enum { HEIGHTS = 10 };
 
@@ -77,11 +81,12 @@ static void write_filler(struct tree *tree, int height, int nodes, int with_slot
     tree->counts[nodes + with_slots] = 1;
 }
 
-static void write_leaves(const struct profile *profile, int band, struct tree *tree)
+static void write_leaves(const struct profile *profile, int margin, struct tree *tree)
 {
     for (int slot = 0; slot < profile->slots; slot++) {
-        int low = profile->setpoints[slot] - band;
-        int high = profile->setpoints[slot] + band;
+        int reach = profile->bands[slot] - margin;
+        int low = profile->setpoints[slot] - reach;
+        int high = profile->setpoints[slot] + reach;
         tree->windows[0][slot].low = (int16_t)(low < -MOST_VALUE ? -MOST_VALUE : low);
         tree->windows[0][slot].high = (int16_t)(high > MOST_VALUE ? MOST_VALUE : high);
         tree->counts[profile->leaves + slot] = 1;
@@ -89,12 +94,12 @@ static void write_leaves(const struct profile *profile, int band, struct tree *t
     write_filler(tree, 0, profile->leaves, profile->slots);
 }
 
-/* Finds every node's set for a band; the answer is the fewest terms that keep it. */
-static int fewest_terms(const struct profile *profile, int band, struct tree *tree)
+/* Finds every node's set for a margin that no band is below; the answer is the fewest terms that leave it. */
+static int fewest_terms(const struct profile *profile, int margin, struct tree *tree)
 {
     int terms = 0;
     int height = 0;
-    write_leaves(profile, band, tree);
+    write_leaves(profile, margin, tree);
     for (int nodes = profile->leaves / 2; nodes > 0; nodes /= 2) {
         int room = 1 << height;
         int with_slots = nodes_with_slots(profile, height + 1);
@@ -117,28 +122,30 @@ static int fewest_terms(const struct profile *profile, int band, struct tree *tr
     return is_in(tree->windows[height], tree->counts[1], profile->rest) ? terms : terms + 1;
 }
 
-/* The least band up to `top` for which `budget` terms are enough; they are for `top`. */
-static int least_band_within(const struct profile *profile, int budget, int top, struct tree *tree)
+/* The greatest margin up to `top` that `budget` terms can leave in every slot; they can leave 0. */
+static int greatest_margin(const struct profile *profile, int budget, int top, struct tree *tree)
 {
     int low = 0;
     int high = top;
     while (low < high) {
-        int middle = (low + high) / 2;
+        int middle = (low + high + 1) / 2;
         if (fewest_terms(profile, middle, tree) <= budget)
-            high = middle;
+            low = middle;
         else
-            low = middle + 1;
+            high = middle - 1;
     }
-    return high;
+    return low;
 }
 
 /* Goes down the tree level by level: a term, of the least value of the node's set, where what comes in is not in the set.
- * So of several smallest synopses the first is written, compared term by term: the lower node first, then the lower value. */
-static int write_terms(const struct profile *profile, const struct tree *tree, struct term *terms)
+ * So of several smallest synopses the first is written, compared term by term: the lower node first, then the lower value.
+ * The answer is the greatest error of what reaches the slots. */
+static int write_terms(const struct profile *profile, const struct tree *tree, struct synopsis *synopsis)
 {
     int16_t incoming[MOST_NODES];
-    int count = 0;
+    int greatest = 0;
     int height = 0;
+    synopsis->count = 0;
     while (1 << height < profile->leaves)
         height++;
     incoming[1] = (int16_t)profile->rest;
@@ -148,37 +155,51 @@ static int write_terms(const struct profile *profile, const struct tree *tree, s
             const struct window *windows = &tree->windows[height][(node - first) << height];
             int16_t value = incoming[node];
             if (!is_in(windows, tree->counts[node], value)) {
+                struct term *term = &synopsis->terms[synopsis->count++];
                 value = windows[0].low;
-                terms[count].node = (uint16_t)node;
-                terms[count].value = value;
-                count++;
+                term->node = (uint16_t)node;
+                term->value = value;
             }
             if (node < profile->leaves) {
                 incoming[2 * node] = value;
                 incoming[2 * node + 1] = value;
+            } else {
+                int error = abs(profile->setpoints[node - profile->leaves] - value);
+                greatest = error > greatest ? error : greatest;
             }
         }
     }
-    return count;
+    return greatest;
+}
+
+/* The least band that a slot goes by: no margin is greater. */
+static int tightest(const struct profile *profile)
+{
+    int least = MOST_BAND;
+    for (int slot = 0; slot < profile->slots; slot++)
+        least = profile->bands[slot] < least ? profile->bands[slot] : least;
+    return least;
 }
 
 int build(const struct profile *profile, struct synopsis *synopsis)
 {
     struct tree tree;
-    int budget = fewest_terms(profile, profile->band, &tree);
-    int error = least_band_within(profile, budget, profile->band, &tree);
-    fewest_terms(profile, error, &tree);
+    int budget = fewest_terms(profile, 0, &tree);
+    int margin = greatest_margin(profile, budget, tightest(profile), &tree);
+    fewest_terms(profile, margin, &tree);
     synopsis->slots = profile->slots;
     synopsis->leaves = profile->leaves;
     synopsis->band = profile->band;
     synopsis->rest = profile->rest;
-    synopsis->count = write_terms(profile, &tree, synopsis->terms);
-    return error;
+    memcpy(synopsis->bands, profile->bands, sizeof synopsis->bands);
+    return write_terms(profile, &tree, synopsis);
 }
 
 /* The band 400,00 takes in every value: no term is needed. */
-int least_band(const struct profile *profile, int budget)
+int least_band(struct profile *profile, int budget)
 {
     struct tree tree;
-    return least_band_within(profile, budget, MOST_BAND, &tree);
+    for (int slot = 0; slot < profile->slots; slot++)
+        profile->bands[slot] = MOST_BAND;
+    return MOST_BAND - greatest_margin(profile, budget, MOST_BAND, &tree);
 }

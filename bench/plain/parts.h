@@ -15,13 +15,15 @@ enum {
     MOST_BUDGET = 1023
 };
 
-/* A profile's setpoints, and `leaves`, the power of two that the tree stands on. */
+/* A profile's setpoints, the band that each slot goes by, its own or the common one, and `leaves`, the power of two that the
+ * tree stands on. A slot is special where its band is not the common one. */
 struct profile {
     int rest;
     int band;
     int slots;
     int leaves;
     int16_t setpoints[MOST_SLOTS];
+    uint16_t bands[MOST_SLOTS];
 };
 
 struct term {
@@ -36,6 +38,7 @@ struct synopsis {
     int rest;
     int count;
     struct term terms[MOST_TERMS];
+    uint16_t bands[MOST_SLOTS];
 };
 
 static inline bool is_beyond(int value)
@@ -55,9 +58,9 @@ static inline int leaves_over(int slots)
 int read_profile(const uint8_t *text, size_t length, struct profile *profile);
 int read_record(const uint8_t *record, size_t length, struct synopsis *synopsis);
 
-size_t record_bytes(int terms);
+size_t record_bytes(const struct synopsis *synopsis);
 
-/* The bytes of the record at the front of a buffer, as its count says; 0 where the buffer ends before. */
+/* The bytes of the record at the front of a buffer, as its counts say; 0 where the buffer ends before, or the version is unknown. */
 size_t front_bytes(const uint8_t *buffer, size_t length);
 
 void write_record(const struct synopsis *synopsis, uint8_t *record);
@@ -65,7 +68,7 @@ void write_record(const struct synopsis *synopsis, uint8_t *record);
 /* Builds the first of the best synopses; the answer is its greatest error. */
 int build(const struct profile *profile, struct synopsis *synopsis);
 
-/* The least band for which `budget` terms are enough. */
-int least_band(const struct profile *profile, int budget);
+/* The least band for all slots for which `budget` terms are enough. The profile's bands are lost. */
+int least_band(struct profile *profile, int budget);
 
 #endif

@@ -3,6 +3,9 @@
 
 #include "parts.h"
 
+#include <stdlib.h>
+#include <string.h>
+
 static uint64_t refused(int refusal)
 {
     return (uint64_t)refusal;
@@ -37,21 +40,32 @@ static void restore_nodes(const struct synopsis *synopsis, int16_t *values)
     }
 }
 
-static uint64_t check(const struct profile *profile, const struct synopsis *synopsis)
+/* Whether every error is within its slot's band: then the greatest error and the least of band minus error, else the lowest
+ * slot where it is not. */
+struct verdict {
+    bool kept;
+    int error;
+    int margin;
+    int slot;
+};
+
+/* The bands are the synopsis's. */
+static struct verdict check(const struct profile *profile, const struct synopsis *synopsis)
 {
     int16_t values[MOST_NODES];
-    int greatest = 0;
+    struct verdict verdict = { true, 0, MOST_BAND, 0 };
     restore_nodes(synopsis, values);
     for (int slot = 0; slot < profile->slots; slot++) {
-        int error = profile->setpoints[slot] - values[profile->leaves + slot];
-        if (error < 0)
-            error = -error;
-        if (error > synopsis->band)
-            return granted(0, 0, (unsigned)slot);
-        if (error > greatest)
-            greatest = error;
+        int error = abs(profile->setpoints[slot] - values[profile->leaves + slot]);
+        int margin = synopsis->bands[slot] - error;
+        if (margin < 0)
+            return (struct verdict){ false, 0, 0, slot };
+        if (error > verdict.error)
+            verdict.error = error;
+        if (margin < verdict.margin)
+            verdict.margin = margin;
     }
-    return granted(1, (unsigned)greatest, 0);
+    return verdict;
 }
 
 uint64_t plain_text_to_record(const uint8_t *text, size_t text_len, uint8_t *record, size_t record_len)
@@ -62,7 +76,7 @@ uint64_t plain_text_to_record(const uint8_t *text, size_t text_len, uint8_t *rec
     if (refusal != 0)
         return refused(refusal);
     int error = build(&profile, &synopsis);
-    size_t bytes = record_bytes(synopsis.count);
+    size_t bytes = record_bytes(&synopsis);
     if (record_len < bytes)
         return refused(6);
     write_record(&synopsis, record);
@@ -91,7 +105,16 @@ uint64_t plain_record_against_text(const uint8_t *record, size_t record_len, con
         return refused(refusal);
     if (synopsis.slots != profile.slots)
         return refused(9);
-    return check(&profile, &synopsis);
+    struct verdict verdict = check(&profile, &synopsis);
+    return granted(verdict.kept, (unsigned)verdict.error, (unsigned)verdict.slot);
+}
+
+static bool has_specials(const struct profile *profile)
+{
+    for (int slot = 0; slot < profile->slots; slot++)
+        if (profile->bands[slot] != profile->band)
+            return true;
+    return false;
 }
 
 uint64_t plain_least_band_of_text(const uint8_t *text, size_t text_len, uint64_t budget)
@@ -100,6 +123,8 @@ uint64_t plain_least_band_of_text(const uint8_t *text, size_t text_len, uint64_t
     int refusal = read_profile(text, text_len, &profile);
     if (refusal != 0)
         return refused(refusal);
+    if (has_specials(&profile))
+        return refused(12);
     if (budget > MOST_BUDGET)
         return refused(5);
     return granted((unsigned)least_band(&profile, (int)budget), 0, 0);
@@ -109,7 +134,7 @@ uint64_t plain_least_band_of_text(const uint8_t *text, size_t text_len, uint64_t
 struct offer {
     size_t bytes;
     int count;
-    unsigned error;
+    int margin;
 };
 
 static struct offer read_offer(const struct profile *profile, const uint8_t *buffer, size_t length)
@@ -121,10 +146,12 @@ static struct offer read_offer(const struct profile *profile, const uint8_t *buf
         return none;
     if (synopsis.slots != profile->slots || synopsis.band != profile->band || synopsis.rest != profile->rest)
         return none;
-    uint64_t checked = check(profile, &synopsis);
-    if ((checked >> 16 & 1) == 0)
+    if (memcmp(synopsis.bands, profile->bands, (size_t)profile->slots * sizeof profile->bands[0]) != 0)
         return none;
-    return (struct offer){ bytes, synopsis.count, (unsigned)(checked >> 32 & 0xFFFF) };
+    struct verdict verdict = check(profile, &synopsis);
+    if (!verdict.kept)
+        return none;
+    return (struct offer){ bytes, synopsis.count, verdict.margin };
 }
 
 uint64_t plain_better_offer(const uint8_t *text, size_t text_len, const uint8_t *first, size_t first_len, const uint8_t *second, size_t second_len)
@@ -134,7 +161,7 @@ uint64_t plain_better_offer(const uint8_t *text, size_t text_len, const uint8_t 
         return granted(0, 0, 0);
     struct offer one = read_offer(&profile, first, first_len);
     struct offer other = read_offer(&profile, second, second_len);
-    bool better = other.count < one.count || (other.count == one.count && other.error < one.error);
+    bool better = other.count < one.count || (other.count == one.count && other.margin > one.margin);
     if (other.bytes > 0 && (one.bytes == 0 || better))
         return granted(2, (unsigned)other.bytes, 0);
     return granted(one.bytes > 0, (unsigned)one.bytes, 0);

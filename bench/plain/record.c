@@ -1,15 +1,45 @@
-/* Synopsis to record and back: fields packed most significant bit first. */
+/* Synopsis to record and back: fields packed most significant bit first. A record with special slots is a version 2. */
 #include "parts.h"
 
 enum {
-    VERSION = 1,
+    VERSION_BITS = 4,
     HEADER_BITS = 55,
-    TERM_BITS = 26
+    TERM_BITS = 26,
+    COUNT_BITS = 10,
+    SPECIAL_BITS = 25
 };
 
-size_t record_bytes(int terms)
+/* Where a record ends: by its count of terms, and in version 2 by that of special slots. */
+struct counts {
+    unsigned version;
+    int terms;
+    int specials;
+};
+
+static int bits_of(struct counts counts)
 {
-    return (size_t)(HEADER_BITS + TERM_BITS * terms + 7) / 8;
+    int bits = HEADER_BITS + TERM_BITS * counts.terms;
+    return counts.version == 1 ? bits : bits + COUNT_BITS + SPECIAL_BITS * counts.specials;
+}
+
+static size_t bytes_of(int bits)
+{
+    return (size_t)(bits + 7) / 8;
+}
+
+static struct counts counts_of(const struct synopsis *synopsis)
+{
+    struct counts counts = { 1, synopsis->count, 0 };
+    for (int slot = 0; slot < synopsis->slots; slot++)
+        counts.specials += synopsis->bands[slot] != synopsis->band;
+    if (counts.specials > 0)
+        counts.version = 2;
+    return counts;
+}
+
+size_t record_bytes(const struct synopsis *synopsis)
+{
+    return bytes_of(bits_of(counts_of(synopsis)));
 }
 
 struct bit_writer {
@@ -28,18 +58,32 @@ static void put(struct bit_writer *to, int width, unsigned number)
     }
 }
 
+static void put_specials(struct bit_writer *to, const struct synopsis *synopsis, int count)
+{
+    put(to, COUNT_BITS, (unsigned)count);
+    for (int slot = 0; slot < synopsis->slots; slot++) {
+        if (synopsis->bands[slot] != synopsis->band) {
+            put(to, 9, (unsigned)slot);
+            put(to, 16, synopsis->bands[slot]);
+        }
+    }
+}
+
 void write_record(const struct synopsis *synopsis, uint8_t *record)
 {
+    struct counts counts = counts_of(synopsis);
     struct bit_writer to = { record, 0, 0 };
-    put(&to, 4, VERSION);
+    put(&to, VERSION_BITS, counts.version);
     put(&to, 9, (unsigned)(synopsis->slots - 1));
     put(&to, 16, (unsigned)synopsis->band);
     put(&to, 16, (uint16_t)synopsis->rest);
-    put(&to, 10, (unsigned)synopsis->count);
+    put(&to, COUNT_BITS, (unsigned)synopsis->count);
     for (int i = 0; i < synopsis->count; i++) {
         put(&to, 10, synopsis->terms[i].node);
         put(&to, 16, (uint16_t)synopsis->terms[i].value);
     }
+    if (counts.version == 2)
+        put_specials(&to, synopsis, counts.specials);
     if (to.bits > 0)
         put(&to, 8 - to.bits, 0);
 }
@@ -60,9 +104,33 @@ static unsigned take(struct bit_reader *from, int width)
     return from->held >> from->bits & ((1u << width) - 1);
 }
 
-static bool is_fill_zero(const uint8_t *record, size_t length, int count)
+/* The count that starts at a bit. */
+static int count_at(const uint8_t *record, int bit)
 {
-    int fill = (int)(8 * length) - (HEADER_BITS + TERM_BITS * count);
+    struct bit_reader from = { record + bit / 8, 0, 0 };
+    take(&from, bit % 8);
+    return (int)take(&from, COUNT_BITS);
+}
+
+/* Reads version and counts; false where the bytes end before a count, or the version is unknown. */
+static bool read_counts(const uint8_t *record, size_t length, struct counts *counts)
+{
+    if (length < bytes_of(HEADER_BITS))
+        return false;
+    counts->version = record[0] >> 4;
+    counts->terms = count_at(record, HEADER_BITS - COUNT_BITS);
+    counts->specials = 0;
+    if (counts->version != 2)
+        return counts->version == 1;
+    if (length < bytes_of(bits_of(*counts)))
+        return false;
+    counts->specials = count_at(record, HEADER_BITS + TERM_BITS * counts->terms);
+    return true;
+}
+
+static bool is_fill_zero(const uint8_t *record, size_t length, int bits)
+{
+    int fill = (int)(8 * length) - bits;
     return (record[length - 1] & ((1 << fill) - 1)) == 0;
 }
 
@@ -81,32 +149,51 @@ static bool read_terms(struct bit_reader *from, struct synopsis *synopsis)
     return true;
 }
 
+static bool read_specials(struct bit_reader *from, struct synopsis *synopsis)
+{
+    int last = -1;
+    int count = (int)take(from, COUNT_BITS);
+    for (int i = 0; i < count; i++) {
+        int slot = (int)take(from, 9);
+        int band = (int)take(from, 16);
+        if (slot <= last || slot >= synopsis->slots || band > MOST_BAND || band == synopsis->band)
+            return false;
+        synopsis->bands[slot] = (uint16_t)band;
+        last = slot;
+    }
+    return count > 0;
+}
+
 size_t front_bytes(const uint8_t *buffer, size_t length)
 {
-    if (length < record_bytes(0))
+    struct counts counts;
+    if (!read_counts(buffer, length, &counts))
         return 0;
-    size_t bytes = record_bytes((buffer[5] & 7) << 7 | buffer[6] >> 1);
+    size_t bytes = bytes_of(bits_of(counts));
     return bytes <= length ? bytes : 0;
 }
 
 int read_record(const uint8_t *record, size_t length, struct synopsis *synopsis)
 {
+    struct counts counts;
     struct bit_reader from = { record, 0, 0 };
-    if (length < record_bytes(0))
+    if (!read_counts(record, length, &counts) || length != bytes_of(bits_of(counts)))
         return 7;
-    unsigned version = take(&from, 4);
+    if (!is_fill_zero(record, length, bits_of(counts)))
+        return 7;
+    take(&from, VERSION_BITS);
     synopsis->slots = (int)take(&from, 9) + 1;
     synopsis->leaves = leaves_over(synopsis->slots);
     synopsis->band = (int)take(&from, 16);
     synopsis->rest = (int16_t)take(&from, 16);
-    synopsis->count = (int)take(&from, 10);
-    if (version != VERSION || length != record_bytes(synopsis->count))
-        return 7;
-    if (!is_fill_zero(record, length, synopsis->count))
-        return 7;
+    synopsis->count = (int)take(&from, COUNT_BITS);
     if (is_beyond(synopsis->rest))
         return 2;
     if (synopsis->band > MOST_BAND)
         return 3;
-    return read_terms(&from, synopsis) ? 0 : 8;
+    if (!read_terms(&from, synopsis))
+        return 8;
+    for (int slot = 0; slot < synopsis->slots; slot++)
+        synopsis->bands[slot] = (uint16_t)synopsis->band;
+    return counts.version == 1 || read_specials(&from, synopsis) ? 0 : 11;
 }

@@ -1,4 +1,4 @@
-/* Profile text to rest value, band and setpoints. */
+/* Profile text to rest value, band, setpoints and the bands that the slots go by. */
 #include "parts.h"
 
 struct text {
@@ -34,8 +34,8 @@ static int read_carry(struct text *text)
     return third >= 5;
 }
 
-/* Reads one line as hundredths; false where it is not a number with its line end. */
-static bool read_line(struct text *text, int *value)
+/* Reads a number as hundredths; false where there is none. */
+static bool read_number(struct text *text, int *value)
 {
     int number = 0;
     bool negative = skip(text, '-');
@@ -54,21 +54,47 @@ static bool read_line(struct text *text, int *value)
         number *= 100;
     }
     *value = negative ? -number : number;
+    return true;
+}
+
+/* Reads one line; false where it is not a number with its line end. */
+static bool read_line(struct text *text, int *value)
+{
+    return read_number(text, value) && skip(text, '\n');
+}
+
+/* Reads a setpoint line, perhaps with a space and the slot's own band. */
+static bool read_slot_line(struct text *text, int *setpoint, int *band)
+{
+    if (!read_number(text, setpoint))
+        return false;
+    if (skip(text, ' ') && !read_number(text, band))
+        return false;
     return skip(text, '\n');
+}
+
+static bool is_band(int value)
+{
+    return value >= 0 && value <= MOST_BAND;
 }
 
 static int read_setpoints(struct text *text, struct profile *profile)
 {
-    int value;
     profile->slots = 0;
     while (text->next < text->end) {
+        int setpoint;
+        int band = profile->band;
         if (profile->slots == MOST_SLOTS)
             return 4;
-        if (!read_line(text, &value))
+        if (!read_slot_line(text, &setpoint, &band))
             return 1;
-        if (is_beyond(value))
+        if (is_beyond(setpoint))
             return 2;
-        profile->setpoints[profile->slots++] = (int16_t)value;
+        if (!is_band(band))
+            return 3;
+        profile->setpoints[profile->slots] = (int16_t)setpoint;
+        profile->bands[profile->slots] = (uint16_t)band;
+        profile->slots++;
     }
     return profile->slots == 0 ? 4 : 0;
 }
@@ -86,7 +112,7 @@ int read_profile(const uint8_t *bytes, size_t length, struct profile *profile)
         return 4;
     if (!read_line(&text, &profile->band))
         return 1;
-    if (profile->band < 0 || profile->band > MOST_BAND)
+    if (!is_band(profile->band))
         return 3;
 
     int refusal = read_setpoints(&text, profile);

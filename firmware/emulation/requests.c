@@ -44,9 +44,10 @@ static uint64_t number;
 static size_t destination_len;
 static uint64_t result;
 
-static uint8_t built[PANEL_MOST_RECORD_BYTES];
-static uint8_t changed[PANEL_MOST_RECORD_BYTES];
-static uint8_t typed[PANEL_MOST_TEXT_BYTES + PANEL_LONGEST_LINE];
+/* A byte more than the longest record that is built. */
+static uint8_t built[PANEL_MOST_BUILT_BYTES + 1];
+static uint8_t changed[sizeof built];
+static uint8_t typed[PANEL_MOST_TEXT_BYTES + PANEL_LONGEST_SLOT_LINE];
 
 static unsigned requests_made;
 static struct taken most[CALLS];
@@ -261,7 +262,7 @@ static void type_character(char character)
     typed[text_len++] = (uint8_t)character;
 }
 
-/* Types a value in hundredths as a line; one in four has a third digit, which may round it away from zero. */
+/* Types a value in hundredths; one in four has a third digit, which may round it away from zero. */
 static void type_value(int32_t value)
 {
     uint32_t size = (uint32_t)(value < 0 ? -value : value);
@@ -277,6 +278,11 @@ static void type_value(int32_t value)
     type_character((char)('0' + size % 10));
     if (below(4) == 0)
         type_character((char)('0' + below(10)));
+}
+
+static void type_line(int32_t value)
+{
+    type_value(value);
     type_character('\n');
 }
 
@@ -296,16 +302,36 @@ static int32_t setpoint(enum shape shape, int32_t before)
     }
 }
 
-static void type_profile(enum shape shape, unsigned slots, int32_t band)
+/* Which slots have a band of their own; it is up to twice the common one, and may be the common one. */
+enum own { IN_NO_SLOT, IN_THE_FIRST_SLOTS, IN_SOME_SLOTS, IN_ALL_SLOTS, OWNS };
+
+static bool has_own_band(enum own own, unsigned slot)
+{
+    switch (own) {
+    case IN_THE_FIRST_SLOTS:
+        return slot < 24;
+    case IN_SOME_SLOTS:
+        return below(5) == 0;
+    default:
+        return own == IN_ALL_SLOTS;
+    }
+}
+
+static void type_profile(enum shape shape, unsigned slots, int32_t band, enum own own)
 {
     int32_t value = 1400;
     text = typed;
     text_len = 0;
-    type_value(value);
-    type_value(band);
+    type_line(value);
+    type_line(band);
     for (unsigned slot = 0; slot < slots; slot++) {
         value = setpoint(shape, value);
         type_value(value);
+        if (has_own_band(own, slot)) {
+            type_character(' ');
+            type_value((int32_t)below(2 * (uint32_t)band + 2));
+        }
+        type_character('\n');
     }
 }
 
@@ -317,7 +343,22 @@ static void fire_profiles(void)
         for (size_t j = 0; j < sizeof bands / sizeof bands[0]; j++) {
             for (int shape = 0; shape < SHAPES; shape++) {
                 if (lengths[i] < 257 || (int)j == shape) {
-                    type_profile((enum shape)shape, lengths[i], bands[j]);
+                    type_profile((enum shape)shape, lengths[i], bands[j], IN_NO_SLOT);
+                    fire(lengths[i]);
+                }
+            }
+        }
+    }
+}
+
+static void fire_profiles_with_own_bands(void)
+{
+    static const unsigned lengths[] = { 1, 2, 3, 5, 8, 13, 22, 32, 100, 300, 512 };
+    for (size_t i = 0; i < sizeof lengths / sizeof lengths[0]; i++) {
+        for (int own = IN_THE_FIRST_SLOTS; own < OWNS; own++) {
+            for (int shape = 0; shape < SHAPES; shape++) {
+                if (lengths[i] < 257 || own == shape) {
+                    type_profile((enum shape)shape, lengths[i], 200, (enum own)own);
                     fire(lengths[i]);
                 }
             }
@@ -332,6 +373,7 @@ static void take_text(const char *characters)
 }
 
 static const char GOOD[] = "14,00\n0,25\n14,10\n13,90\n20,00\n19,50\n";
+static const char WITH_OWN_BAND[] = "14,00\n0,25\n14,10\n13,90\n20,00 0,10\n19,50\n";
 
 /* Texts that are refused, and some just within the limits. */
 static void ask_texts(void)
@@ -342,7 +384,14 @@ static void ask_texts(void)
         "14,00\n0,25\n-200,01\n", "999,01\n", "14,00\n-0,01\n1\n", "14,00\n400,00\n1\n", "14,00\n400,01\n1\n", "14,00\n-0\n-0,00\n",
         "14,505\n0,254\n14,104\n-0,005\n", "-200,004\n400,004\n200,004\n0,995\n", "14,00\n-0,004\n-0,004\n", "14,00\n0,25\n200,005\n",
         "14,00\n-0,005\n1\n", "999,995\n", "14,00\n0,25\n14.505\n", "14,00\n0,25\n14,5050\n", "14,00\n0,25\n14,505",
-        "14 \n0,25\n1\n", "14,00\n0,25\n1\n\n", "14,00\r\n0,25\r\n1\r\n", "-,5\n0\n1\n", "--1\n0\n1\n", "1\n2\n3\n4\n5\n6\n7\n8\n9"
+        "14 \n0,25\n1\n", "14,00\n0,25\n1\n\n", "14,00\r\n0,25\r\n1\r\n", "-,5\n0\n1\n", "--1\n0\n1\n", "1\n2\n3\n4\n5\n6\n7\n8\n9",
+        "14,00\n0,25\n14,10 0,10\n", "14,00\n0,25\n14,10 \n", "14,00\n0,25\n14,10  0,10\n", "14,00\n0,25\n14,10\t0,10\n",
+        "14,00\n0,25\n 14,10 0,10\n", "14,00\n0,25\n14,10 0,10 \n", "14,00\n0,25\n14,10 0,10 0,10\n", "14,00\n0,25\n14,10 0,10",
+        "14,00 0,10\n0,25\n14,10\n", "14,00\n0,25 0,10\n14,10\n", "14,00\n0,25\n300,00 x\n", "14,00\n0,25\nx 500,00\n",
+        "14,00\n0,25\n300,00 500,00\n", "14,00\n0,25\n1,00 500,00\n", "14,00\n0,25\n1,00 -0,01\n", "14,00\n0,25\n1,00 -0,005\n",
+        "14,00\n0,25\n1,00 400,005\n", "14,00\n0,25\n1,00 400,004\n", "14,00\n0,25\n1,00 -0\n", "14,00\n0,25\n1,00 -000,004\n",
+        "14,00\n0,25\n14,10 0,25\n", "14,00\n0,25\n14,10 0,254\n13,90 0,245\n", "14,00\n0,25\n14,10 0,254\n13,90 0,244\n",
+        "-200,004\n-000,004\n-200,004 -000,004\n", "-200,004\n400,004\n-200,004 -000,004\n"
     };
     record = changed;
     for (size_t i = 0; i < sizeof texts / sizeof texts[0]; i++) {
@@ -354,15 +403,22 @@ static void ask_texts(void)
         ask_least_band(1024);
         ask_least_band(2);
     }
-    type_profile(NEAR, 512, 10);
+    type_profile(NEAR, 512, 10, IN_NO_SLOT);
     type_character('0');
+    build();
+    type_profile(NEAR, 512, 10, IN_ALL_SLOTS);
+    type_character(' ');
     build();
 }
 
-/* Destinations of every length about the record's, and numbers that do not fit 32 bits. */
+/* Destinations of every length about the records', and numbers that do not fit 32 bits. */
 static void ask_limits(void)
 {
     static const uint64_t numbers[] = { 1023, 1024, 65536, 1ull << 32, (1ull << 32) + 1, (1ull << 63) + 2, UINT64_MAX };
+    take_text(WITH_OWN_BAND);
+    for (destination_len = 0; destination_len < 21; destination_len++)
+        ask(TEXT_TO_RECORD);
+    ask_least_band(1024);
     take_text(GOOD);
     for (destination_len = 0; destination_len < 14; destination_len++)
         ask(TEXT_TO_RECORD);
@@ -418,12 +474,49 @@ static void ask_past_the_end(void)
     ask_slot(6);
 }
 
+static const char TWO_BANDS[] = "5\n0,10\n0\n0 0,01\n";
+
+/* Records of version 2 for that text's two slots, with a term for each: the first has errors of 5 and 0 and the greater least
+ * margin, the second has errors of 0 and 1. */
+static const uint8_t GREATER_MARGIN[] = {
+    0x20, 0x08, 0x00, 0x50, 0x0F, 0xA0, 0x04, 0x01, 0x00, 0x02, 0x80, 0x60, 0x00, 0x00, 0x08, 0x04, 0x00, 0x04
+};
+static const uint8_t SMALLER_ERROR[] = {
+    0x20, 0x08, 0x00, 0x50, 0x0F, 0xA0, 0x04, 0x01, 0x00, 0x00, 0x00, 0x60, 0x00, 0x20, 0x08, 0x04, 0x00, 0x04
+};
+
+/* A version 2 with no special slot, which is refused with 11; with fewer bytes it ends before its second count. */
+static const uint8_t NO_SPECIAL_SLOT[] = { 0x20, 0x08, 0x00, 0x50, 0x0F, 0xA0, 0x00, 0x00, 0x00 };
+
+/* Records with special slots against a text with the same and against one without. */
+static void ask_own_bands(void)
+{
+    take_text(TWO_BANDS);
+    fire(2);
+    record = GREATER_MARGIN;
+    record_len = sizeof GREATER_MARGIN;
+    ask_record();
+    ask_offers(SMALLER_ERROR, sizeof SMALLER_ERROR);
+    take_text("5\n0,10\n0\n0,02 0,10\n");
+    ask_record();
+    ask_offers(SMALLER_ERROR, sizeof SMALLER_ERROR);
+    record = NO_SPECIAL_SLOT;
+    for (record_len = sizeof NO_SPECIAL_SLOT; record_len > 5; record_len--)
+        ask_record();
+}
+
 static void ask_records(void)
 {
     take_text(GOOD);
     build();
     ask_changed_records();
-    type_profile(OF_THREE_VALUES, 23, 100);
+    type_profile(OF_THREE_VALUES, 23, 100, IN_NO_SLOT);
+    build();
+    ask_changed_records();
+    take_text(WITH_OWN_BAND);
+    build();
+    ask_changed_records();
+    type_profile(OF_THREE_VALUES, 7, 100, IN_ALL_SLOTS);
     build();
     ask_changed_records();
 }
@@ -432,10 +525,12 @@ void requests(void)
 {
     ask_benchmark();
     fire_profiles();
+    fire_profiles_with_own_bands();
     ask_texts();
     ask_limits();
     ask_records();
     ask_past_the_end();
+    ask_own_bands();
     for (int i = 0; i < CALLS; i++)
         print_figures(CALL_NAMES[i], most[i]);
     add_number(requests_made);

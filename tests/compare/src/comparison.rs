@@ -2,9 +2,9 @@
 
 use crate::coverage::Coverage;
 use crate::document::calls::{Answer, Call, Document, packed};
+use crate::document::fields::LONGEST;
 use crate::document::printed::{firing, refused};
-use crate::document::record::byte_count;
-use crate::document::synopsis::End;
+use crate::document::synopsis::{Demand, End, Term};
 use crate::document::text::Profile;
 use crate::{library, program};
 use std::fmt::{Debug, Display};
@@ -86,7 +86,7 @@ impl Comparison {
 
     /// What the program `fire` prints for a text, whole.
     pub fn fire(&mut self, text: &[u8]) -> String {
-        let call = Call::TextToRecord { text, destination: byte_count(1_023) };
+        let call = Call::TextToRecord { text, destination: LONGEST };
         let printed = String::from_utf8_lossy(&program::fire(text)).into_owned();
         let built = self.document.built(text);
         self.coverage.note_firing(built.as_ref().err().copied());
@@ -95,11 +95,16 @@ impl Comparison {
         printed
     }
 
-    /// Counts what F-3 and F-5 change in building a profile.
+    /// Counts what F-3, F-5 and F-6 change in building a profile.
     pub fn note_profile(&mut self, profile: &Profile) {
-        self.coverage.note_fewest(profile);
-        let [first, last] = [End::First, End::Last].map(|end| self.document.best(profile, end));
-        self.coverage.built.note(&first, &last);
+        let demand = profile.demand();
+        let [first, last] = [End::First, End::Last].map(|end| self.best(&demand, end));
+        self.coverage.note_building(profile, &first, &last);
+    }
+
+    /// The first or the last of the best synopses, as the documents give them.
+    pub fn best(&mut self, demand: &Demand, end: End) -> Vec<Term> {
+        self.document.best(demand, end)
     }
 
     /// Compares the library's answer to a call and counts the outcome.

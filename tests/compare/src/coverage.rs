@@ -1,13 +1,17 @@
 //! Which outcomes each call and the program `fire` have shown, counted by name; a run that misses one that the documents allow has failed.
-//! So has one without a profile whose fewest terms F-3 has changed, or without profiles that leave F-5 a choice.
+//! So has one without a profile whose fewest terms F-3 has changed, without profiles that leave F-5 a choice, without a kind
+//! that F-6 makes a difference in, or without a record with faults of two rows that have an order.
 
+use crate::choices::ChoicesOfBoth;
 use crate::document::calls::{Answer, Call};
 use crate::document::offers::{ENDINGS, Ending, LACKS, Lack, better_offer, candidate};
 use crate::document::optimum::fewest_terms;
 use crate::document::record::read_record;
 use crate::document::refusal::{ALL, Calls, Refusal};
-use crate::document::synopsis::{Term, Verdict, check, padded_length};
+use crate::document::synopsis::{Demand, Term, is_kept, padded_length};
 use crate::document::text::{Profile, read_text};
+use crate::kinds::{KINDS, Kind, of_building, of_check, of_choice, of_text};
+use crate::orders::{ORDERS, rows_met};
 use std::collections::HashMap;
 use std::fmt::Debug;
 use std::hash::Hash;
@@ -59,64 +63,34 @@ fn kept_despite_filler(record: &[u8], text: &[u8]) -> bool {
     let (Ok(record), Ok(profile)) = (read_record(record), read_text(text)) else {
         return false;
     };
-    let verdict = check(&record.terms, record.rest, record.band, &lengthened(&profile.setpoints));
-    matches!(verdict, Verdict::NotKept(_))
+    !is_kept(&record.terms, &lengthened(record.demand_for(&profile.setpoints)))
 }
 
-/// A profile's setpoints with the last one in filler too, as document 01 had it before F-3: only for showing that F-3 makes
-/// a difference in the run.
-fn lengthened(setpoints: &[i32]) -> Vec<i32> {
-    let mut all = setpoints.to_vec();
-    all.resize(padded_length(setpoints.len()), setpoints[setpoints.len() - 1]);
-    all
-}
-
-/// Profiles, counted by what F-5 chooses from: the first and the last of the best synopses are one, have terms at the
-/// same nodes, or at others.
-#[derive(Default)]
-pub struct Choices {
-    none: u64,
-    of_values: u64,
-    of_nodes: u64,
-}
-
-impl Choices {
-    pub fn note(&mut self, first: &[Term], last: &[Term]) {
-        let nodes = |terms: &[Term]| terms.iter().map(|term| term.node).collect::<Vec<usize>>();
-        if first == last {
-            self.none += 1;
-        } else if nodes(first) == nodes(last) {
-            self.of_values += 1;
-        } else {
-            self.of_nodes += 1;
-        }
+/// A demand with the last setpoint, and its band, in filler too, as document 01 had it before F-3: only for showing that F-3
+/// makes a difference in the run.
+fn lengthened(mut demand: Demand) -> Demand {
+    let length = padded_length(demand.setpoints.len());
+    for list in [&mut demand.setpoints, &mut demand.bands] {
+        list.resize(length, list[list.len() - 1]);
     }
-
-    fn print(&self, profiles: &str) {
-        let several = self.of_values + self.of_nodes;
-        println!(
-            "{profiles}: {}, of which with several best synopses: {several}, the last with terms at other nodes than the first: {}",
-            self.none + several,
-            self.of_nodes
-        );
-    }
-
-    fn complete(&self) -> bool {
-        self.none > 0 && self.of_values > 0 && self.of_nodes > 0
-    }
+    demand
 }
 
 #[derive(Default)]
 pub struct Coverage {
     met: HashMap<Outcome, [u64; 5]>,
-    endings: HashMap<Ending, u64>,
+    orders: HashMap<(u16, u16), u64>,
+    texts_refused: u64,
+    /// By whether the text has special slots.
+    endings: [HashMap<Ending, u64>; 2],
     lacks: HashMap<Lack, u64>,
+    kinds: HashMap<Kind, u64>,
     with_filler: u64,
     with_other_fewest: u64,
-    /// Profiles all of whose best synopses the second program has tried, a band each.
-    pub tried: Choices,
+    /// Profiles all of whose best synopses the second program has tried, with some bands each.
+    pub tried: ChoicesOfBoth,
     /// Profiles that the library has built.
-    pub built: Choices,
+    built: ChoicesOfBoth,
 }
 
 impl Coverage {
@@ -129,27 +103,67 @@ impl Coverage {
             Call::BetterOffer { text, first, second } => return self.note_offers(text, first, second),
         };
         self.met.entry(Outcome::of(call, answer)).or_default()[column] += 1;
+        self.note_order(call);
+        match (call, answer) {
+            (Call::TextToRecord { text, .. }, Ok(_)) => {
+                let profile = read_text(text).expect("a text that is accepted");
+                self.note_kinds(of_text(text, &profile));
+            }
+            (Call::RecordAgainstText { record, text }, Ok(_)) => {
+                let profile = read_text(text).expect("a text that is accepted");
+                self.note_kinds(of_check(&read_record(record).expect("a record that is accepted"), &profile));
+            }
+            _ => {}
+        }
     }
 
-    /// How a choice between two offers ends, and what each that is no candidate lacks.
-    fn note_offers(&mut self, text: &[u8], first: &[u8], second: &[u8]) {
-        *self.endings.entry(better_offer(text, first, second).0).or_default() += 1;
-        if let Ok(profile) = read_text(text) {
-            for lack in [first, second].into_iter().filter_map(|buffer| candidate(&profile, buffer).err()) {
-                *self.lacks.entry(lack).or_default() += 1;
+    fn note_kinds(&mut self, kinds: Vec<Kind>) {
+        for kind in kinds {
+            *self.kinds.entry(kind).or_default() += 1;
+        }
+    }
+
+    /// The row that is returned, with each that is met after it.
+    fn note_order(&mut self, call: Call) {
+        if let Some((&returned, others)) = rows_met(call).split_first() {
+            for &other in others {
+                *self.orders.entry((returned, other)).or_default() += 1;
             }
         }
     }
 
+    /// How a choice between two offers ends, and what each that is no candidate lacks.
+    fn note_offers(&mut self, text: &[u8], first: &[u8], second: &[u8]) {
+        let Ok(profile) = read_text(text) else {
+            self.texts_refused += 1;
+            return;
+        };
+        let ending = better_offer(text, first, second).0;
+        *self.endings[usize::from(!profile.specials.is_empty())].entry(ending).or_default() += 1;
+        let offers = [first, second].map(|buffer| candidate(&profile, buffer));
+        for lack in offers.iter().filter_map(|offer| offer.as_ref().err()) {
+            *self.lacks.entry(*lack).or_default() += 1;
+        }
+        if let [Ok(first), Ok(second)] = &offers {
+            self.note_kinds(of_choice(ending, first, second));
+        }
+    }
+
+    /// What F-3, F-5 and F-6 change in building a profile, by the first and the last of its best synopses.
+    pub fn note_building(&mut self, profile: &Profile, first: &[Term], last: &[Term]) {
+        self.note_fewest(profile.demand());
+        self.built.note(!profile.specials.is_empty(), first, last);
+        self.note_kinds(of_building(profile, first, last));
+    }
+
     /// Whether a profile has filler, and then whether its fewest terms are other than with the last setpoint in filler.
-    pub fn note_fewest(&mut self, profile: &Profile) {
-        let lengthened = lengthened(&profile.setpoints);
-        if lengthened.len() == profile.setpoints.len() {
+    fn note_fewest(&mut self, demand: Demand) {
+        let slots = demand.setpoints.len();
+        if slots == padded_length(slots) {
             return;
         }
-        let fewest = |setpoints: &[i32]| fewest_terms(setpoints, profile.rest, profile.band);
         self.with_filler += 1;
-        self.with_other_fewest += u64::from(fewest(&lengthened) != fewest(&profile.setpoints));
+        self.with_other_fewest += u64::from(fewest_terms(&demand, 0) != fewest_terms(&lengthened(demand), 0));
     }
 
     /// The outcome of a firing.
@@ -161,7 +175,7 @@ impl Coverage {
         self.met.get(&outcome).copied().unwrap_or_default()
     }
 
-    /// The table of counts; a dash where document 01 gives the call no such outcome.
+    /// The table of counts; a dash where the documents give the call no such outcome.
     pub fn print(&self) {
         println!("{:46}{:>9}{:>9}{:>9}{:>9}{:>9}", "", "to", "one", "against", "least", "");
         println!("{:46}{:>9}{:>9}{:>9}{:>9}{:>9}", "outcome", "record", "slot", "text", "band", "fire");
@@ -172,8 +186,15 @@ impl Coverage {
                 cells.map(|(&allowed, count)| if allowed { format!("{count:>9}") } else { format!("{:>9}", "-") });
             println!("{number:>2}  {words:42}{}", cells.collect::<String>());
         }
-        println!("two offers, by how the choice ends: {}", listed(&ENDINGS, &self.endings));
+        let orders = ORDERS.iter().map(|order| format!("{}-{} {}", order.0, order.1, count(order, &self.orders)));
+        println!("records with faults of two rows: {}", orders.collect::<Vec<_>>().join(", "));
+        let [plain, special] = self.endings.each_ref().map(|endings| listed(&ENDINGS, endings));
+        println!("two offers, by how the choice ends: TextRefused {}, {plain}", self.texts_refused);
+        println!("two offers for a text with special slots: {special}");
         println!("two offers, by what one lacks: {}", listed(&LACKS, &self.lacks));
+        for kind in KINDS {
+            println!("{:56}{:>9}", kind.words(), count(&kind, &self.kinds));
+        }
         println!(
             "profiles with filler: {}, of which with other fewest terms than with the last setpoint in filler: {}",
             self.with_filler, self.with_other_fewest
@@ -182,23 +203,33 @@ impl Coverage {
         self.built.print("profiles built");
     }
 
-    /// Whether every call has shown every outcome that it can have, and some profile the difference that F-3 makes and
-    /// each choice that F-5 has.
+    /// Whether every call has shown every outcome that it can have, and the run the difference that F-3 makes, each choice
+    /// that F-5 has, each kind of F-6 and each order of two rows.
     pub fn complete(&self) -> bool {
         let all_met = |outcome: Outcome| {
             outcome.row().1.iter().zip(self.counts(outcome)).all(|(&allowed, count)| !allowed || count > 0)
         };
         Outcome::all().all(all_met)
-            && ENDINGS.iter().all(|ending| self.endings.contains_key(ending))
-            && LACKS.iter().all(|lack| self.lacks.contains_key(lack))
+            && self.texts_refused > 0
             && self.with_other_fewest > 0
+            && self.endings.iter().all(|endings| all_counted(&ENDINGS, endings))
+            && all_counted(&ORDERS, &self.orders)
+            && all_counted(&LACKS, &self.lacks)
+            && all_counted(&KINDS, &self.kinds)
             && self.tried.complete()
             && self.built.complete()
     }
 }
 
+fn count<T: Eq + Hash>(name: &T, counts: &HashMap<T, u64>) -> u64 {
+    counts.get(name).copied().unwrap_or_default()
+}
+
+fn all_counted<T: Eq + Hash>(names: &[T], counts: &HashMap<T, u64>) -> bool {
+    names.iter().all(|name| count(name, counts) > 0)
+}
+
 /// Names with their counts.
 fn listed<T: Debug + Eq + Hash>(names: &[T], counts: &HashMap<T, u64>) -> String {
-    let count = |name| counts.get(name).copied().unwrap_or_default();
-    names.iter().map(|name| format!("{name:?} {}", count(name))).collect::<Vec<_>>().join(", ")
+    names.iter().map(|name| format!("{name:?} {}", count(name, counts))).collect::<Vec<_>>().join(", ")
 }

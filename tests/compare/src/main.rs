@@ -1,12 +1,15 @@
 //! The second program: the documents written anew from the paper alone, and compared with the library for C and with the
 //! programs `fire` and `levels` on many inputs.
 
+mod choices;
 mod comparison;
 mod coverage;
 mod document;
 mod groups;
 mod inputs;
+mod kinds;
 mod library;
+mod orders;
 mod program;
 
 use comparison::Comparison;

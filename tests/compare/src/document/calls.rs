@@ -3,10 +3,10 @@
 use super::BUDGET_LIMIT;
 use super::offers::better_offer;
 use super::optimum::Optimum;
-use super::record::{Record, byte_count, read_record};
+use super::record::{Record, read_record};
 use super::refusal::Refusal;
-use super::synopsis::{End, Term, Verdict, check, greatest_error, padded_length, restored};
-use super::text::{Profile, read_text};
+use super::synopsis::{Demand, End, Term, Verdict, check, greatest_error, padded_length, restored};
+use super::text::read_text;
 use std::fmt;
 
 /// A call with all that is handed to it; for text to record the number of bytes lent for the record.
@@ -52,38 +52,46 @@ impl Document {
     /// The record of the first of the best synopses for a text, and the greatest error.
     pub fn built(&mut self, text: &[u8]) -> Result<(Record, i32), Refusal> {
         let profile = read_text(text)?;
-        let terms = self.best(&profile, End::First);
-        let greatest_error = greatest_error(&terms, profile.rest, &profile.setpoints);
+        let demand = profile.demand();
+        let terms = self.best(&demand, End::First);
+        let greatest_error = greatest_error(&terms, &demand);
         Ok((Record::of(&profile, terms), greatest_error))
     }
 
-    /// The first or the last of the best synopses for a profile.
-    pub fn best(&mut self, profile: &Profile, end: End) -> Vec<Term> {
-        self.optimum(profile).best(profile.band, end)
+    /// The first or the last of the best synopses.
+    pub fn best(&mut self, demand: &Demand, end: End) -> Vec<Term> {
+        self.optimum(demand).best(0, end)
     }
 
     /// Bytes written, terms, greatest error.
     fn text_to_record(&mut self, text: &[u8], destination: usize) -> Answer {
         let (record, greatest_error) = self.built(text)?;
-        let terms = record.terms.len();
-        if destination < byte_count(terms) {
-            return Err(Refusal::DestinationShort);
+        let bytes = record.bytes().len();
+        if destination < bytes {
+            let version_1 = record.specials.is_empty();
+            return Err(if version_1 { Refusal::DestinationShort } else { Refusal::DestinationShortOfSpecials });
         }
-        Ok([byte_count(terms) as u16, terms as u16, greatest_error as u16])
+        Ok([bytes as u16, record.terms.len() as u16, greatest_error as u16])
     }
 
-    /// The band.
+    /// The band: with one for all slots it is as much above the text's as the margin is below 0, and below it as the
+    /// margin is above 0.
     fn least_band_of_text(&mut self, text: &[u8], budget: u64) -> Answer {
         let profile = read_text(text)?;
-        if budget > BUDGET_LIMIT {
-            return Err(Refusal::BudgetAbove);
+        match (profile.specials.is_empty(), budget > BUDGET_LIMIT) {
+            (false, false) => Err(Refusal::HasSpecials),
+            (false, true) => Err(Refusal::HasSpecialsAndBudgetAbove),
+            (true, true) => Err(Refusal::BudgetAbove),
+            (true, false) => {
+                let greatest_margin = self.optimum(&profile.demand()).greatest_margin(budget as usize);
+                Ok([(profile.band - greatest_margin) as u16, 0, 0])
+            }
         }
-        Ok([self.optimum(&profile).least_band(budget as usize) as u16, 0, 0])
     }
 
-    fn optimum(&mut self, profile: &Profile) -> &mut Optimum {
-        let last = self.last.take().filter(|last| last.is_of(profile));
-        self.last.insert(last.unwrap_or_else(|| Optimum::new(&profile.setpoints, profile.rest)))
+    fn optimum(&mut self, demand: &Demand) -> &mut Optimum {
+        let last = self.last.take().filter(|last| last.is_of(demand));
+        self.last.insert(last.unwrap_or_else(|| Optimum::new(demand.clone())))
     }
 }
 
@@ -97,14 +105,14 @@ fn record_slot(record: &[u8], slot: u64) -> Answer {
     Ok([restored(&record.terms, record.rest, node) as u16, 0, 0])
 }
 
-/// Kept, the greatest error, the lowest slot that exceeds the band.
+/// Kept, the greatest error, the lowest slot whose error exceeds its band. The text's bands are read and not used.
 fn record_against_text(record: &[u8], text: &[u8]) -> Answer {
     let profile = read_text(text)?;
     let record = read_record(record)?;
     if record.slots != profile.setpoints.len() {
         return Err(Refusal::LengthNotTheProfiles);
     }
-    Ok(match check(&record.terms, record.rest, record.band, &profile.setpoints) {
+    Ok(match check(&record.terms, &record.demand_for(&profile.setpoints)) {
         Verdict::Kept(greatest_error) => [1, greatest_error as u16, 0],
         Verdict::NotKept(slot) => [0, 0, slot as u16],
     })

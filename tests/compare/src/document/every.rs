@@ -1,68 +1,73 @@
-//! Demand 3 and document 02's F-5 by trying every synopsis: the least greatest error of at most 0, 1, 2, ... terms, and
-//! the first and the last of the best synopses. For small profiles.
+//! Demand 3 and document 02's F-5 and F-6 by trying every synopsis: the greatest least margin of at most 0, 1, 2, ... terms,
+//! and the first and the last of the best synopses. For small profiles.
 
 use super::VALUE_LIMIT;
-use super::synopsis::{End, Term, greatest_error, padded_length};
+use super::synopsis::{Demand, End, Term, least_margin, padded_length};
 use std::ops::RangeInclusive;
 
 /// The longest profile for which all sets of nodes are tried.
 pub const MOST_SLOTS: usize = 8;
 
+/// The lowest and the highest value within the bands of no slots: far beyond the limits.
+const ANY_VALUE: (i32, i32) = (-1_000_000, 1_000_000);
+
 /// Every set of nodes, with the best values on it. A slot is fed by exactly one term or by the rest value, so the values
-/// can be chosen one by one; for the slots that a term feeds, no value has a smaller greatest error than half the distance
-/// from their least to their greatest setpoint, rounded up, and the midpoint rounded down has that one. With filler alone
-/// below it, a term feeds no slot that is looked at.
-pub fn every_node_set(setpoints: &[i32], rest: i32) -> Vec<i32> {
-    let nodes = 2 * padded_length(setpoints.len()) - 1;
-    let mut least = vec![i32::MAX; nodes + 1];
+/// can be chosen one by one. With filler alone below it, a term feeds no slot that is looked at.
+pub fn every_node_set(demand: &Demand) -> Vec<i32> {
+    let nodes = 2 * padded_length(demand.setpoints.len()) - 1;
+    let mut greatest = vec![i32::MIN; nodes + 1];
     for set in 0..1u32 << nodes {
         let terms = set.count_ones() as usize;
-        least[terms] = least[terms].min(best_error(setpoints, rest, set));
+        greatest[terms] = greatest[terms].max(best_margin(demand, set));
     }
-    at_most(least)
+    at_most(greatest)
 }
 
-/// The first or the last of the synopses of so many terms that keep an error: of every set of so many nodes that can
-/// keep it, the synopsis with the lowest value at each node, or with the highest.
-pub fn end_of_node_sets(setpoints: &[i32], rest: i32, terms: usize, error: i32, end: End) -> Vec<Term> {
-    let nodes = 2 * padded_length(setpoints.len()) - 1;
-    let keeps = |set: &u32| set.count_ones() as usize == terms && best_error(setpoints, rest, *set) <= error;
-    let synopses = (0..1u32 << nodes).filter(keeps).map(|set| with_end_values(setpoints, set, error, end));
-    end.of(synopses).expect("a set of so many nodes that keeps the error")
+/// The first or the last of the synopses of so many terms that have a least margin of so much: of every set of so many
+/// nodes that can have it, the synopsis with the lowest value at each node, or with the highest.
+pub fn end_of_node_sets(demand: &Demand, terms: usize, margin: i32, end: End) -> Vec<Term> {
+    let nodes = 2 * padded_length(demand.setpoints.len()) - 1;
+    let has_margin = |set: &u32| set.count_ones() as usize == terms && best_margin(demand, *set) >= margin;
+    let synopses = (0..1u32 << nodes).filter(has_margin).map(|set| with_end_values(demand, set, margin, end));
+    end.of(synopses).expect("a set of so many nodes that has the margin")
 }
 
-/// Terms at exactly the nodes of a set, each with the lowest value, or the highest, that keeps an error in the slots it
+/// Terms at exactly the nodes of a set, each with the lowest value, or the highest, that leaves a margin in the slots it
 /// feeds.
-fn with_end_values(setpoints: &[i32], set: u32, error: i32, end: End) -> Vec<Term> {
-    let fed = fed_setpoints(setpoints, set);
+fn with_end_values(demand: &Demand, set: u32, margin: i32, end: End) -> Vec<Term> {
+    let within_bands = within_bands(demand, set);
     let value = |node: usize| match end {
-        End::First => fed[node].1.saturating_sub(error).max(-VALUE_LIMIT),
-        End::Last => fed[node].0.saturating_add(error).min(VALUE_LIMIT),
+        End::First => (within_bands[node].0 + margin).max(-VALUE_LIMIT),
+        End::Last => (within_bands[node].1 - margin).min(VALUE_LIMIT),
     };
-    let nodes = (1..fed.len()).filter(|&node| set >> (node - 1) & 1 == 1);
+    let nodes = (1..within_bands.len()).filter(|&node| set >> (node - 1) & 1 == 1);
     nodes.map(|node| Term { node, value: value(node) }).collect()
 }
 
-/// The least greatest error of synopses with a term at exactly the nodes of a set: node i is bit i-1.
-fn best_error(setpoints: &[i32], rest: i32, set: u32) -> i32 {
-    let ends = fed_setpoints(setpoints, set);
-    let from_rest = |(least, greatest): (i32, i32)| (rest - least).max(greatest - rest);
-    let from_midpoint = |(least, greatest): (i32, i32)| (greatest - least + 1) / 2;
-    let fed = |ends: &(i32, i32)| ends.0 <= ends.1;
-    let rest_error = ends[..1].iter().copied().filter(fed).map(from_rest);
-    let term_errors = ends[1..].iter().copied().filter(fed).map(from_midpoint);
-    rest_error.chain(term_errors).fold(0, i32::max)
+/// The greatest least margin of synopses with a term at exactly the nodes of a set: node i is bit i-1.
+///
+/// A value v leaves the margins v - (d - b) and (d + b) - v in a slot with setpoint d and band b; so the least of the slots
+/// that a term feeds is that to the greater of their lower ends or to the lesser of their upper ends, and no value leaves
+/// more than half of what is between the two, rounded down. The midpoint rounded down leaves that, and it lies between two
+/// setpoints, so within the limits: the slot with that lower end has its setpoint at the midpoint or above, since its upper
+/// end is no lower than the other; and the other way round.
+fn best_margin(demand: &Demand, set: u32) -> i32 {
+    let within_bands = within_bands(demand, set);
+    let (lowest, highest) = within_bands[0];
+    let from_rest = (demand.rest - lowest).min(highest - demand.rest);
+    let from_midpoint = within_bands[1..].iter().map(|(lowest, highest)| (highest - lowest).div_euclid(2));
+    from_midpoint.fold(from_rest, i32::min)
 }
 
-/// By node of a set the least and the greatest setpoint that its term feeds, and by 0 those that the rest value feeds;
-/// with none the least is above the greatest.
-fn fed_setpoints(setpoints: &[i32], set: u32) -> [(i32, i32); 2 * MOST_SLOTS] {
-    let first_leaf = padded_length(setpoints.len());
-    let mut ends = [(i32::MAX, i32::MIN); 2 * MOST_SLOTS];
-    for (slot, &setpoint) in setpoints.iter().enumerate() {
-        let (least, greatest) = &mut ends[feeding_node(set, first_leaf + slot)];
-        *least = setpoint.min(*least);
-        *greatest = setpoint.max(*greatest);
+/// By node of a set the lowest and the highest value within the bands of all slots that its term feeds, and by 0 those for
+/// the slots that the rest value feeds; where no value is within all bands the lowest is above the highest.
+fn within_bands(demand: &Demand, set: u32) -> [(i32, i32); 2 * MOST_SLOTS] {
+    let first_leaf = padded_length(demand.setpoints.len());
+    let mut ends = [ANY_VALUE; 2 * MOST_SLOTS];
+    for (slot, (setpoint, band)) in demand.slots().enumerate() {
+        let (lowest, highest) = &mut ends[feeding_node(set, first_leaf + slot)];
+        *lowest = (setpoint - band).max(*lowest);
+        *highest = (setpoint + band).min(*highest);
     }
     ends
 }
@@ -77,21 +82,22 @@ fn feeding_node(set: u32, mut node: usize) -> usize {
 
 /// Every synopsis of at most so many terms whose values lie between the least and the greatest setpoint: to move a value
 /// there raises no error.
-pub fn every_synopsis(setpoints: &[i32], rest: i32, most_terms: usize) -> Vec<i32> {
-    let mut least = vec![i32::MAX; most_terms + 1];
-    for_every_synopsis(setpoints, most_terms, 0, |terms| {
+pub fn every_synopsis(demand: &Demand, most_terms: usize) -> Vec<i32> {
+    let mut greatest = vec![i32::MIN; most_terms + 1];
+    for_every_synopsis(demand, most_terms, 0, |terms| {
         let count = terms.len();
-        least[count] = least[count].min(greatest_error(terms, rest, setpoints));
+        greatest[count] = greatest[count].max(least_margin(terms, demand));
     });
-    at_most(least)
+    at_most(greatest)
 }
 
-/// Every synopsis of the fewest terms that keeps an error. Each of its terms feeds a slot, or it would be one too many;
-/// so its value is no farther than the error from a setpoint.
-pub fn every_best_synopsis(setpoints: &[i32], rest: i32, fewest: usize, error: i32) -> Vec<Vec<Term>> {
+/// Every synopsis of the fewest terms that has a least margin of so much. Each of its terms feeds a slot, or it would be
+/// one too many; so its value is no farther from that slot's setpoint than its band less the margin.
+pub fn every_best_synopsis(demand: &Demand, fewest: usize, margin: i32) -> Vec<Vec<Term>> {
     let mut best = Vec::new();
-    for_every_synopsis(setpoints, fewest, error, |terms| {
-        if terms.len() == fewest && greatest_error(terms, rest, setpoints) <= error {
+    let greatest_band = demand.bands.iter().copied().fold(0, i32::max);
+    for_every_synopsis(demand, fewest, greatest_band - margin, |terms| {
+        if terms.len() == fewest && least_margin(terms, demand) >= margin {
             best.push(terms.to_vec());
         }
     });
@@ -100,11 +106,11 @@ pub fn every_best_synopsis(setpoints: &[i32], rest: i32, fewest: usize, error: i
 
 /// Every synopsis of at most so many terms whose values are within the limits, and at most so far below the least
 /// setpoint or above the greatest.
-fn for_every_synopsis(setpoints: &[i32], most_terms: usize, distance: i32, mut each: impl FnMut(&[Term])) {
-    let least = setpoints.iter().copied().fold(i32::MAX, i32::min);
-    let greatest = setpoints.iter().copied().fold(i32::MIN, i32::max);
+fn for_every_synopsis(demand: &Demand, most_terms: usize, distance: i32, mut each: impl FnMut(&[Term])) {
+    let least = demand.setpoints.iter().copied().fold(i32::MAX, i32::min);
+    let greatest = demand.setpoints.iter().copied().fold(i32::MIN, i32::max);
     let values = (least - distance).max(-VALUE_LIMIT)..=(greatest + distance).min(VALUE_LIMIT);
-    let last_node = 2 * padded_length(setpoints.len()) - 1;
+    let last_node = 2 * padded_length(demand.setpoints.len()) - 1;
     for_every_longer(&mut Vec::new(), most_terms, last_node, &values, &mut each);
 }
 
@@ -129,10 +135,10 @@ fn for_every_longer(
     }
 }
 
-/// From the least for exactly t terms to the least for at most t.
-fn at_most(mut least: Vec<i32>) -> Vec<i32> {
-    for terms in 1..least.len() {
-        least[terms] = least[terms].min(least[terms - 1]);
+/// From the greatest for exactly t terms to the greatest for at most t.
+fn at_most(mut greatest: Vec<i32>) -> Vec<i32> {
+    for terms in 1..greatest.len() {
+        greatest[terms] = greatest[terms].max(greatest[terms - 1]);
     }
-    least
+    greatest
 }

@@ -1,8 +1,10 @@
 //! Document 01 written a second time, from the paper alone, as document 02's requests have changed it so far: a module a section.
 //! Readings of its open places are those of docs/DECISIONS.md.
 
+pub mod bands;
 pub mod calls;
 pub mod every;
+pub mod fields;
 pub mod number;
 pub mod offers;
 pub mod optimum;
@@ -21,3 +23,9 @@ pub const BAND_LIMIT: i32 = 40_000;
 pub const SLOT_LIMIT: usize = 512;
 /// The greatest budget.
 pub const BUDGET_LIMIT: u64 = 1_023;
+/// The bytes of the longest line of the first two, as `-200,004`, and of the longest setpoint line, with an own band, each
+/// with its end.
+pub const LONGEST_FIRST_LINE: usize = 8 + 1;
+pub const LONGEST_SETPOINT_LINE: usize = 8 + 1 + 8 + 1;
+/// The bytes of the longest text that is accepted.
+pub const LONGEST_TEXT: usize = 2 * LONGEST_FIRST_LINE + SLOT_LIMIT * LONGEST_SETPOINT_LINE;

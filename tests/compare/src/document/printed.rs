@@ -5,9 +5,9 @@ use super::record::Record;
 use super::refusal::Refusal;
 use super::synopsis::{padded_length, restored};
 
-/// Slots, terms, band and greatest error; then a line a term, then a line a slot below n.
+/// Slots, terms, the common band and the greatest error; then a line a term, then a line a slot below n.
 pub fn firing(record: &Record, greatest_error: i32) -> String {
-    let Record { slots, band, rest, terms } = record;
+    let Record { slots, band, rest, terms, .. } = record;
     let first_leaf = padded_length(*slots);
     let first = format!("{slots} {} {} {}\n", terms.len(), write_number(*band), write_number(greatest_error));
     let terms_lines = terms.iter().map(|term| format!("term {} {}\n", term.node, write_number(term.value)));

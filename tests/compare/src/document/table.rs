@@ -1,21 +1,20 @@
-//! Demand 3 and document 02's F-5 for profiles of any length, by a table over nodes and values: the fewest terms that
-//! keep a band, and the first and the last of the synopses with so many.
+//! Demand 3 and document 02's F-5 and F-6 for profiles of any length, by a table over nodes and values: the fewest terms
+//! that leave a margin in every slot, and the first and the last of the synopses with so many.
 //!
 //! The table holds for every node the fewest terms below it, by the value that the node hands down: its own term's, or
-//! the one from above. From one value to the next such a number falls only where the next is the lowest value within
-//! the band of a slot below n. So the lowest value with so few terms is one of these, or the lowest of all; likewise
-//! the highest, with the highest values within the band. These and the rest value are all the values that have to be
+//! the one from above. From one value to the next such a number falls only where the next is the lowest value that leaves
+//! the margin in some slot below n. So the lowest value with so few terms is one of these, or the lowest of all; likewise
+//! the highest, with the highest values that leave the margin. These and the rest value are all the values that have to be
 //! looked at.
 
 use super::VALUE_LIMIT;
-use super::synopsis::{End, Term, padded_length};
+use super::synopsis::{Demand, End, Term, padded_length};
 
 /// The values to be looked at for an end.
-pub fn values_towards(end: End, setpoints: &[i32], band: i32) -> Vec<i32> {
-    let distance = if end == End::First { -band } else { band };
-    let limit = if end == End::First { -VALUE_LIMIT } else { VALUE_LIMIT };
-    let within_band = |setpoint: &i32| (setpoint + distance).clamp(-VALUE_LIMIT, VALUE_LIMIT);
-    setpoints.iter().map(within_band).chain([limit]).collect()
+pub fn values_towards(end: End, demand: &Demand, margin: i32) -> Vec<i32> {
+    let (sign, limit) = if end == End::First { (-1, -VALUE_LIMIT) } else { (1, VALUE_LIMIT) };
+    let farthest = |(setpoint, band): (i32, i32)| (setpoint + sign * (band - margin)).clamp(-VALUE_LIMIT, VALUE_LIMIT);
+    demand.slots().map(farthest).chain([limit]).collect()
 }
 
 pub struct Table {
@@ -28,22 +27,24 @@ pub struct Table {
 }
 
 impl Table {
-    pub fn new(setpoints: &[i32], rest: i32, band: i32, mut values: Vec<i32>) -> Table {
-        values.push(rest);
+    /// For a margin that every slot's band has room for.
+    pub fn new(demand: &Demand, margin: i32, mut values: Vec<i32>) -> Table {
+        values.push(demand.rest);
         values.sort_unstable();
         values.dedup();
-        let first_leaf = padded_length(setpoints.len());
+        let first_leaf = padded_length(demand.setpoints.len());
+        let slots: Vec<(i32, i32)> = demand.slots().collect();
         let mut below = vec![Vec::new(); 2 * first_leaf];
         for node in (1..2 * first_leaf).rev() {
             below[node] = match node.checked_sub(first_leaf) {
-                Some(slot) => below_leaf(setpoints.get(slot), &values, band),
+                Some(slot) => below_leaf(slots.get(slot), &values, margin),
                 None => sums(at_and_below(&below[2 * node]), at_and_below(&below[2 * node + 1])),
             };
         }
-        Table { rest: values.partition_point(|&value| value < rest), values, below }
+        Table { rest: values.partition_point(|&value| value < demand.rest), values, below }
     }
 
-    /// The fewest terms that keep the band.
+    /// The fewest terms that leave the margin.
     pub fn fewest(&self) -> usize {
         self.at_and_below(1, self.rest)
     }
@@ -88,10 +89,10 @@ impl Table {
     }
 }
 
-/// Nothing where the value is within the band or the slot is filler; elsewhere more than any number of terms.
-fn below_leaf(setpoint: Option<&i32>, values: &[i32], band: i32) -> Vec<u16> {
-    let exceeds = |value: &i32| setpoint.is_some_and(|setpoint| (setpoint - value).abs() > band);
-    values.iter().map(|value| if exceeds(value) { u16::MAX } else { 0 }).collect()
+/// Nothing where the value leaves the margin or the slot is filler; elsewhere more than any number of terms.
+fn below_leaf(slot: Option<&(i32, i32)>, values: &[i32], margin: i32) -> Vec<u16> {
+    let leaves_less = |value: &i32| slot.is_some_and(|(setpoint, band)| band - (setpoint - value).abs() < margin);
+    values.iter().map(|value| if leaves_less(value) { u16::MAX } else { 0 }).collect()
 }
 
 /// The fewest terms at and below a node that has a term.

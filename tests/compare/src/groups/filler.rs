@@ -6,6 +6,7 @@ use super::records::{every_slot, restored_profile};
 use crate::comparison::Comparison;
 use crate::document::VALUE_LIMIT;
 use crate::document::record::Record;
+use crate::document::text::Profile;
 use crate::inputs::profiles::{SHAPES, away, filler_nodes, profile, record, with_terms_at};
 use crate::inputs::random::Random;
 use crate::inputs::typed::any_text;
@@ -33,7 +34,19 @@ fn lengths() -> impl Iterator<Item = usize> {
 /// Terms at the first, at the last and at all nodes over filler alone, with a value far from the last setpoint: the check
 /// answers by the slots below n, and each of these is restored as ever.
 fn terms_over_filler(comparison: &mut Comparison, random: &mut Random, slots: usize) {
-    let plain = Record { band: random.between(0, 500), ..record(random, slots, 5) };
+    let band = random.between(0, 500);
+    let own: Vec<i32> = (0..slots).map(|_| random.between(0, 500)).collect();
+    let specials = Profile::plain(0, band, vec![0; slots]).with_bands(&own).specials;
+    for specials in [Vec::new(), specials] {
+        let record = Record { band, specials, ..record(random, slots, 5) };
+        over_filler_by_bands(comparison, random, record);
+    }
+}
+
+/// The same for a record's bands.
+fn over_filler_by_bands(comparison: &mut Comparison, random: &mut Random, plain: Record) {
+    let slots = plain.slots;
+    let bands = plain.bands();
     let restored = restored_profile(random, &plain);
     let far = away(restored.setpoints[slots - 1], VALUE_LIMIT);
     let nodes = filler_nodes(slots);
@@ -46,7 +59,7 @@ fn terms_over_filler(comparison: &mut Comparison, random: &mut Random, slots: us
         comparison.same("kept, with terms over filler alone", &case, [0, 1, 0, 0], kept);
         for slot in [0, random.below(slots), slots - 1] {
             let mut moved = restored.clone();
-            moved.setpoints[slot] = away(moved.setpoints[slot], record.band + 1);
+            moved.setpoints[slot] = away(moved.setpoints[slot], bands[slot] + 1);
             let not_kept = comparison.record_against_text(&bytes, &any_text(random, &moved));
             comparison.same("not kept in a slot below n", &case, [0, 0, 0, slot as u16], not_kept);
         }

@@ -4,11 +4,13 @@
 use super::firings::{fire, for_all};
 use super::instances::term;
 use crate::comparison::Comparison;
+use crate::document::fields::LONGEST;
 use crate::document::optimum::Optimum;
-use crate::document::record::{Record, byte_count};
+use crate::document::record::Record;
 use crate::document::synopsis::{End, Term};
 use crate::document::text::{Profile, write_text};
 use crate::document::{SLOT_LIMIT, VALUE_LIMIT};
+use crate::inputs::profiles::specials;
 use crate::inputs::random::Random;
 
 /// 0,96 within 4 hundredths of the rest value 1,00, and -0,01, which all values from -0,05 to 0,03 keep within as many.
@@ -28,7 +30,7 @@ pub fn run(comparison: &mut Comparison) {
     let mut random = Random::new(9);
     for_all(&[0, 2], 8, |setpoints| {
         for (rest, band) in [(0, 0), (1, 0), (3, 1)] {
-            fire(comparison, &Profile { rest, band, setpoints: setpoints.to_vec() });
+            fire(comparison, &Profile::plain(rest, band, setpoints.to_vec()));
         }
     });
     for slots in (1..=66).flat_map(|slots| [slots; 6]).chain([127, 128, 129, 200, 255, 256, 257, 300, 384, 511]) {
@@ -51,7 +53,8 @@ fn on_few_levels(random: &mut Random, slots: usize) -> Profile {
         (middle + step * random.between(-2, 2) + unrest).clamp(-VALUE_LIMIT, VALUE_LIMIT)
     };
     let setpoints = (0..slots).map(|_| level(0)).collect();
-    Profile { rest: level(step / 2), band: random.between(0, step), setpoints }
+    let (rest, band) = (level(step / 2), random.between(0, step));
+    Profile { specials: specials(random, slots, band), ..Profile::plain(rest, band, setpoints) }
 }
 
 /// A name, a profile's rest value, band and setpoints, and the first and the last of its best synopses.
@@ -59,11 +62,11 @@ type Case<'a> = (&'a str, i32, i32, &'a [i32], &'a [Term], &'a [Term]);
 
 fn chosen(comparison: &mut Comparison, cases: &[Case]) {
     for &(name, rest, band, setpoints, first, last) in cases {
-        let profile = Profile { rest, band, setpoints: setpoints.to_vec() };
-        let record = comparison.text_to_record(&write_text(&profile), byte_count(1_023)).1;
+        let profile = Profile::plain(rest, band, setpoints.to_vec());
+        let record = comparison.text_to_record(&write_text(&profile), LONGEST).1;
         let expected = Record::of(&profile, first.to_vec()).bytes();
         comparison.same("the record of the first, by name", &name, Some(expected), record);
-        let found = Optimum::new(setpoints, rest).best(band, End::Last);
+        let found = Optimum::new(profile.demand()).best(0, End::Last);
         comparison.same("the last of the best synopses, by name", &name, last, &found);
     }
 }
@@ -132,9 +135,9 @@ fn bytes(comparison: &mut Comparison) {
 
 /// "Two panels fed one profile should send identical bytes": each call writes the one record, whatever its destination
 /// held.
-fn whatever_was_held(comparison: &mut Comparison, text: &[u8]) {
+pub fn whatever_was_held(comparison: &mut Comparison, text: &[u8]) {
     let contents: [fn(usize) -> u8; 3] = [|_| 0, |_| 255, |place| place as u8];
     for held in contents {
-        comparison.text_to_record_over(text, byte_count(SLOT_LIMIT), held);
+        comparison.text_to_record_over(text, LONGEST, held);
     }
 }

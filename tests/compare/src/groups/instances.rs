@@ -1,7 +1,8 @@
 //! The documents' instances, each by name, with what the documents themselves say they give, and readings of them.
 
 use crate::comparison::Comparison;
-use crate::document::record::{Fields, Record, byte_count};
+use crate::document::fields::{Fields, LONGEST};
+use crate::document::record::Record;
 use crate::document::synopsis::Term;
 use crate::document::text::{Profile, read_text, write_text};
 
@@ -26,33 +27,33 @@ pub fn run(comparison: &mut Comparison) {
     readings(&mut instances);
 }
 
-struct Instances<'a>(&'a mut Comparison);
+pub struct Instances<'a>(pub &'a mut Comparison);
 
 /// A refusal: its number, and 0 for all other results.
-fn refused(number: u16) -> [u16; 4] {
+pub fn refused(number: u16) -> [u16; 4] {
     [number, 0, 0, 0]
 }
 
 impl Instances<'_> {
-    fn builds(&mut self, name: &str, text: &[u8], gives: [u16; 4], terms: &[Term]) -> Option<Vec<u8>> {
-        let (answer, record) = self.0.text_to_record(text, byte_count(1_023));
+    pub fn builds(&mut self, name: &str, text: &[u8], gives: [u16; 4], terms: &[Term]) -> Option<Vec<u8>> {
+        let (answer, record) = self.0.text_to_record(text, LONGEST);
         self.0.same("an instance of the documents", &name, gives, answer);
         let expected = read_text(text).map(|profile| Record::of(&profile, terms.to_vec()).bytes()).ok();
         self.0.same("the record of an instance", &name, &expected, &record);
         record
     }
 
-    fn restores(&mut self, name: &str, record: &[u8], slot: u64, gives: [u16; 4]) {
+    pub fn restores(&mut self, name: &str, record: &[u8], slot: u64, gives: [u16; 4]) {
         let answer = self.0.record_slot(record, slot);
         self.0.same("an instance of the documents", &name, gives, answer);
     }
 
-    fn checks(&mut self, name: &str, record: &[u8], text: &[u8], gives: [u16; 4]) {
+    pub fn checks(&mut self, name: &str, record: &[u8], text: &[u8], gives: [u16; 4]) {
         let answer = self.0.record_against_text(record, text);
         self.0.same("an instance of the documents", &name, gives, answer);
     }
 
-    fn least_band(&mut self, name: &str, text: &[u8], budget: u64, gives: [u16; 4]) {
+    pub fn least_band(&mut self, name: &str, text: &[u8], budget: u64, gives: [u16; 4]) {
         let answer = self.0.least_band_of_text(text, budget);
         self.0.same("an instance of the documents", &name, gives, answer);
     }
@@ -72,8 +73,8 @@ impl Instances<'_> {
     }
 
     /// A text that every call on text turns away.
-    fn refuses(&mut self, name: &str, text: &[u8], number: u16) {
-        let answer = self.0.text_to_record(text, byte_count(1_023)).0;
+    pub fn refuses(&mut self, name: &str, text: &[u8], number: u16) {
+        let answer = self.0.text_to_record(text, LONGEST).0;
         self.0.same("an instance of the documents", &name, refused(number), answer);
         self.least_band(name, text, 0, refused(number));
         self.checks(name, &FIRING_RECORD, text, refused(number));
@@ -85,7 +86,7 @@ pub fn term(node: usize, value: i32) -> Term {
 }
 
 fn profile_text(setpoints: &[i32], rest: i32, band: i32) -> Vec<u8> {
-    write_text(&Profile { rest, band, setpoints: setpoints.to_vec() })
+    write_text(&Profile::plain(rest, band, setpoints.to_vec()))
 }
 
 fn one_firing(instances: &mut Instances) {
@@ -140,7 +141,7 @@ fn thousandths(instances: &mut Instances) {
     for (band, header) in [("400,004", 40_000), ("399,995", 40_000), ("0,005", 1), ("0,004", 0), ("-0,004", 0)] {
         let name = format!("`{band}` as a band");
         let record = instances.builds(&name, format!("0\n{band}\n0\n").as_bytes(), [0, 7, 0, 0], &[]);
-        let expected = Record { slots: 1, band: header, rest: 0, terms: Vec::new() }.bytes();
+        let expected = Record::plain(1, header, 0, Vec::new()).bytes();
         instances.0.same("the record of a band in thousandths", &name, Some(expected), record);
     }
     for (band, number) in [("400,005", 3), ("-0,005", 3), ("0.004", 1)] {
@@ -175,7 +176,7 @@ fn wrong_turnings(instances: &mut Instances) {
     instances.builds("nothing between 0 and 100 fits, rest 50", &four(50), [0, 17, 3, 0], &three);
     instances.builds("0 and 1 under one term", &profile_text(&[0, 1], 500, 1), [0, 11, 1, 1], &[term(1, 0)]);
     instances.builds("no root term where the rest value serves", &profile_text(&[7; 8], 7, 0), [0, 7, 0, 0], &[]);
-    let record = Record { slots: 2, band: 0, rest: 50, terms: vec![term(1, 100), term(2, 0)] }.bytes();
+    let record = Record::plain(2, 0, 50, vec![term(1, 100), term(2, 0)]).bytes();
     instances.restores("a term of value 0 under another, its slot", &record, 0, [0, 0, 0, 0]);
     instances.restores("a term of value 0 under another, the other slot", &record, 1, [0, 100, 0, 0]);
 }
@@ -184,7 +185,7 @@ fn wrong_turnings(instances: &mut Instances) {
 fn lengths_of_records(instances: &mut Instances) {
     for (last_node, length) in [(0, 7), (1, 11), (1_023, 3_332)] {
         let terms = (1..=last_node).map(|node| term(node, 5)).collect();
-        let mut bytes = Record { slots: 512, band: 0, rest: 5, terms }.bytes();
+        let mut bytes = Record::plain(512, 0, 5, terms).bytes();
         instances.0.same("the length of a record", &last_node, length, bytes.len());
         instances.restores("a record of this length", &bytes, 511, [0, 5, 0, 0]);
         instances.restores("a record one byte short", &bytes[..length - 1], 511, refused(7));
@@ -210,13 +211,13 @@ fn slots_past_the_end(instances: &mut Instances) {
     instances.checks("F-3's profile, slot 5 outside it too", &slot_5_too, PAST_THE_END, [0, 0, 0, 5]);
     instances.restores("the last slot before filler", &far, 5, [0, 100, 0, 0]);
     instances.restores("the first filler slot", &far, 6, refused(10));
-    let record = Record { slots: 3, band: 0, rest: 0, terms: vec![term(7, 100)] }.bytes();
+    let record = Record::plain(3, 0, 0, vec![term(7, 100)]).bytes();
     instances.checks("a filler slot outside the band, the last one's neighbour", &record, b"0\n0\n0\n0\n0\n", kept);
 }
 
 /// A record of two terms for F-3's profile: one over filler alone, at node 7, and slot 5's own.
 pub fn with_filler_term(band: i32, (filler, slot_5): (i32, i32)) -> Vec<u8> {
-    Record { slots: 6, band, rest: 0, terms: vec![term(7, filler), term(13, slot_5)] }.bytes()
+    Record::plain(6, band, 0, vec![term(7, filler), term(13, slot_5)]).bytes()
 }
 
 /// Places that are open or easily misread, as docs/DECISIONS.md reads them.
@@ -233,8 +234,8 @@ fn readings(instances: &mut Instances) {
     instances.refuses("a band out of range, and nothing more", b"0\n400,01\n", 3);
     instances.builds("`-0` as a band", b"0\n-0\n0\n", [0, 7, 0, 0], &[]);
     instances.builds("`-0,00` as a band", b"0\n-0,00\n0\n", [0, 7, 0, 0], &[]);
-    let two_terms = Fields { version: 1, length: 0, band: 0, rest: 0, count: 2, terms: vec![(1, 0), (1, 0)], fill: 0 };
-    let record = two_terms.bytes();
+    let record =
+        Fields { count: 2, terms: vec![(1, 0), (1, 0)], ..Record::plain(1, 0, 0, Vec::new()).fields() }.bytes();
     instances.restores("a count above 2m-1 that fits the bytes", &record, 0, refused(8));
     instances.restores("a count above 2m-1 that does not", &record[..record.len() - 1], 0, refused(7));
 }

@@ -8,16 +8,18 @@ mod instances;
 mod levels;
 mod numbers;
 mod offers;
+mod own_bands;
 mod program;
 mod records;
 mod self_check;
 mod texts;
+mod version_2;
 
 use crate::comparison::Comparison;
 
 pub type Group = fn(&mut Comparison);
 
-pub const ALL: [(&str, Group); 12] = [
+pub const ALL: [(&str, Group); 14] = [
     ("the second program against itself", self_check::run),
     ("the documents' instances", instances::run),
     ("levels of all numbers of 16 bits", levels::run),
@@ -26,8 +28,10 @@ pub const ALL: [(&str, Group); 12] = [
     ("firings: built, restored, checked", firings::run),
     ("slots past the end", filler::run),
     ("the first, where several are smallest", first::run),
+    ("a band of its own for a slot", own_bands::run),
     ("budgets", budgets::run),
     ("records, good and damaged", records::run),
+    ("records of version 2, by name", version_2::run),
     ("the better of two offers", offers::run),
     ("the program fire", program::run),
 ];

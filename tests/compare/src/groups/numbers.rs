@@ -1,9 +1,9 @@
-//! Numbers as typed, seen through text to record: a rest value and a band in the record's header, and a setpoint under band 0
-//! as the restored one.
+//! Numbers as typed, seen through text to record: a rest value and a band in the record's header, a setpoint under band 0
+//! as the restored one, and an own band in the record's special slot.
 
 use crate::comparison::Comparison;
+use crate::document::fields::{LONGEST, byte_count};
 use crate::document::number::{read_number, write_number};
-use crate::document::record::byte_count;
 use crate::document::text::{Profile, write_text};
 use crate::document::{BAND_LIMIT, SLOT_LIMIT, VALUE_LIMIT};
 use crate::inputs::random::Random;
@@ -20,7 +20,7 @@ pub fn run(comparison: &mut Comparison) {
     for units in [0, 7, 99, 199, 200, 399, 400, 999] {
         every_thousandth(comparison, units);
     }
-    for typed in [b"14,50".as_slice(), b"-199.99", b"-14,505"] {
+    for typed in [b"14,50".as_slice(), b"-199.99", b"-14,505", b"14,50 0,25", b"-200,004 400,004"] {
         one_byte_changed(comparison, typed);
     }
     for length in (3..300).chain(65_536..65_540) {
@@ -29,13 +29,14 @@ pub fn run(comparison: &mut Comparison) {
     every_value(comparison, &mut random);
 }
 
-/// A field as rest value, as band and as setpoint.
+/// A field as rest value, as band, as setpoint and as own band.
 fn in_all_places(comparison: &mut Comparison, field: &[u8]) {
     for place in 0..3 {
         let mut lines: [&[u8]; 3] = [b"1", b"0", b"2"];
         lines[place] = field;
-        comparison.text_to_record(&lines.map(|line| [line, b"\n"].concat()).concat(), byte_count(1));
+        comparison.text_to_record(&lines.map(|line| [line, b"\n"].concat()).concat(), byte_count(1, 1));
     }
+    comparison.text_to_record(&[b"1\n0\n2 ", field, b"\n"].concat(), byte_count(1, 1));
 }
 
 /// Every field of so many of the bytes.
@@ -74,7 +75,7 @@ fn many_digits(comparison: &mut Comparison, length: usize) {
     in_all_places(comparison, &[b"1.", digits.as_slice()].concat());
 }
 
-/// Every value in range and some beyond, as written out and in another form.
+/// Every value in range and some beyond, as written out and in another form; every band as an own one.
 fn every_value(comparison: &mut Comparison, random: &mut Random) {
     for value in -VALUE_LIMIT - 50..=BAND_LIMIT + 50 {
         in_all_places(comparison, write_number(value).as_bytes());
@@ -87,9 +88,14 @@ fn every_value(comparison: &mut Comparison, random: &mut Random) {
     }
     let values: Vec<i32> = (-VALUE_LIMIT..=VALUE_LIMIT).collect();
     for setpoints in values.chunks(SLOT_LIMIT) {
-        let profile =
-            Profile { rest: random.between(-VALUE_LIMIT, VALUE_LIMIT), band: 0, setpoints: setpoints.to_vec() };
-        comparison.text_to_record(&write_text(&profile), byte_count(SLOT_LIMIT));
-        comparison.text_to_record(&any_text(random, &profile), byte_count(SLOT_LIMIT));
+        let profile = Profile::plain(random.between(-VALUE_LIMIT, VALUE_LIMIT), 0, setpoints.to_vec());
+        comparison.text_to_record(&write_text(&profile), LONGEST);
+        comparison.text_to_record(&any_text(random, &profile), LONGEST);
+    }
+    let bands: Vec<i32> = (0..=BAND_LIMIT).collect();
+    for own in bands.chunks(SLOT_LIMIT) {
+        let profile = Profile::plain(0, own[0], vec![0; own.len()]).with_bands(own);
+        comparison.text_to_record(&write_text(&profile), LONGEST);
+        comparison.text_to_record(&any_text(random, &profile), LONGEST);
     }
 }

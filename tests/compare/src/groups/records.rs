@@ -2,11 +2,12 @@
 
 use crate::comparison::Comparison;
 use crate::document::SLOT_LIMIT;
-use crate::document::record::{Fields, Record, byte_count};
+use crate::document::fields::Fields;
+use crate::document::record::Record;
 use crate::document::synopsis::{padded_length, restored};
 use crate::document::text::Profile;
-use crate::inputs::changes::{add_term, changes, put_terms};
-use crate::inputs::profiles::{any_profile, away, band, record, value};
+use crate::inputs::changes::{add_special, add_term, changes, put_specials, put_terms};
+use crate::inputs::profiles::{any_profile, away, band, record, specials, value};
 use crate::inputs::random::Random;
 use crate::inputs::typed::any_text;
 
@@ -52,13 +53,15 @@ fn read(comparison: &mut Comparison, random: &mut Random, bytes: &[u8], slots: u
     comparison.record_against_text(bytes, &any_text(random, &profile));
 }
 
-/// A record against the profile it restores, against that with one slot moved to the band and past it, against others.
+/// A record against the profile it restores, against that with one slot moved to its band and past it, against others.
 fn checked(comparison: &mut Comparison, random: &mut Random, record: &Record) {
     let bytes = record.bytes();
     let restored = restored_profile(random, record);
     comparison.record_against_text(&bytes, &any_text(random, &restored));
-    for distance in [record.band - 1, record.band, record.band + 1] {
-        for slot in [0, random.below(record.slots), record.slots - 1] {
+    let bands = record.bands();
+    let special = record.specials.first().map_or(0, |special| special.slot);
+    for slot in [0, special, random.below(record.slots), record.slots - 1] {
+        for distance in [record.band, bands[slot] - 1, bands[slot], bands[slot] + 1] {
             let mut moved = restored.clone();
             moved.setpoints[slot] = away(moved.setpoints[slot], distance);
             comparison.record_against_text(&bytes, &any_text(random, &moved));
@@ -73,11 +76,13 @@ fn checked(comparison: &mut Comparison, random: &mut Random, record: &Record) {
     }
 }
 
-/// What a record restores below n, as a profile; its rest value and band are not the record's and do not count.
+/// What a record restores below n, as a profile; its rest value and bands are not the record's and do not count.
 pub fn restored_profile(random: &mut Random, record: &Record) -> Profile {
     let first_leaf = padded_length(record.slots);
     let setpoint = |slot: usize| restored(&record.terms, record.rest, first_leaf + slot);
-    Profile { rest: value(random), band: band(random), setpoints: (0..record.slots).map(setpoint).collect() }
+    let band = band(random);
+    let plain = Profile::plain(value(random), band, (0..record.slots).map(setpoint).collect());
+    Profile { specials: specials(random, record.slots, band), ..plain }
 }
 
 /// One field at a time, and two at a time for the order of refusals.
@@ -92,23 +97,30 @@ fn fields_changed(comparison: &mut Comparison, random: &mut Random, record: &Rec
     }
 }
 
-/// The longest record there is, one byte more and one less.
+/// The longest records of either version, one byte more and one less; the last with a special slot too many, and with as
+/// many as there can be.
 fn every_node_has_a_term(comparison: &mut Comparison, random: &mut Random) {
     for slots in [257, 400, SLOT_LIMIT] {
-        let mut fields = record(random, slots, 0).fields();
-        put_terms(&mut fields, 1_023);
-        let mut bytes = fields.bytes();
-        for slot in 0..=slots as u64 {
-            comparison.record_slot(&bytes, slot);
+        let mut plain = Record { specials: Vec::new(), ..record(random, slots, 0) }.fields();
+        put_terms(&mut plain, 1_023);
+        let [mut all, mut one_more, mut most] = [plain.clone(), plain.clone(), plain.clone()];
+        put_specials(&mut all, slots as i32 - 1);
+        put_specials(&mut one_more, slots as i32);
+        put_specials(&mut most, 1_022);
+        for fields in [plain, all, one_more, most] {
+            let mut bytes = fields.bytes();
+            for slot in 0..=slots as u64 {
+                comparison.record_slot(&bytes, slot);
+            }
+            read(comparison, random, &bytes, slots);
+            read(comparison, random, &bytes[..bytes.len() - 1], slots);
+            bytes.push(0);
+            read(comparison, random, &bytes, slots);
         }
-        read(comparison, random, &bytes, slots);
-        read(comparison, random, &bytes[..byte_count(1_023) - 1], slots);
-        bytes.push(0);
-        read(comparison, random, &bytes, slots);
     }
 }
 
-/// Cut at every byte, lengthened, and with every bit turned over.
+/// Cut at every byte, lengthened, and with every bit turned over; of a long record with a thousand of them.
 fn bytes_changed(comparison: &mut Comparison, random: &mut Random, record: &Record) {
     let bytes = record.bytes();
     for end in 0..bytes.len() {
@@ -117,14 +129,17 @@ fn bytes_changed(comparison: &mut Comparison, random: &mut Random, record: &Reco
     for tail in [[0].as_slice(), &[1], &[255, 255], &[0; 3], &[0; 4], &[0; 65_536]] {
         read(comparison, random, &[bytes.as_slice(), tail].concat(), record.slots);
     }
-    for place in 0..8 * bytes.len() {
+    let bits = 8 * bytes.len();
+    let places: Vec<usize> =
+        if bits <= 1_000 { (0..bits).collect() } else { (0..1_000).map(|_| random.below(bits)).collect() };
+    for place in places {
         let mut turned = bytes.clone();
         turned[place / 8] ^= 128 >> (place % 8);
         read(comparison, random, &turned, record.slots);
     }
 }
 
-/// Fields of any content, with the bytes that their count asks for.
+/// Fields of any content, with the bytes that their counts ask for.
 fn chance_fields(comparison: &mut Comparison, random: &mut Random) {
     let slots = 1 + random.below(16);
     let mut any = |width: u32| (random.next() >> 20) as i32 & ((1 << width) - 1);
@@ -135,6 +150,7 @@ fn chance_fields(comparison: &mut Comparison, random: &mut Random) {
         rest: any(16),
         count: 0,
         terms: Vec::new(),
+        specials: None,
         fill: 0,
     };
     for _ in 0..any(2) {
@@ -144,14 +160,22 @@ fn chance_fields(comparison: &mut Comparison, random: &mut Random) {
     if any(1) == 0 {
         fields.terms.sort_unstable();
     }
+    for _ in 0..any(2) {
+        let special = (any(4), any(16));
+        add_special(&mut fields, special);
+    }
+    if let Some(specials) = fields.specials.as_mut().filter(|_| any(1) == 0) {
+        specials.slots.sort_unstable();
+    }
     read(comparison, random, &fields.bytes(), slots);
 }
 
-/// Bytes of any content; half of them start as version 1.
+/// Bytes of any content; a third of them start as version 1, a third as version 2.
 fn chance_bytes(comparison: &mut Comparison, random: &mut Random) {
     let mut bytes: Vec<u8> = (0..random.below(24)).map(|_| random.next() as u8).collect();
-    if let Some(first) = bytes.first_mut() {
-        *first = if *first < 128 { *first % 16 + 16 } else { *first };
+    let version = random.below(3) as u8;
+    if let Some(first) = bytes.first_mut().filter(|_| version > 0) {
+        *first = *first % 16 + 16 * version;
     }
     let slots = 1 + random.below(16);
     read(comparison, random, &bytes, slots);

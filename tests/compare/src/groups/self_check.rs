@@ -1,14 +1,15 @@
 //! The second program's ways to the optimum against each other: every synopsis, every set of nodes, the table over nodes and
-//! values, for some of the values and for all. What the library is compared with rests on them.
+//! values, for some of the values and for all; with one band for all slots and with a band for each. What the library is
+//! compared with rests on them.
 
 use super::firings::for_all;
 use crate::comparison::Comparison;
-use crate::document::VALUE_LIMIT;
 use crate::document::every::{MOST_SLOTS, every_best_synopsis, every_node_set, every_synopsis};
-use crate::document::optimum::Optimum;
-use crate::document::synopsis::End;
+use crate::document::optimum::{Optimum, fewest_terms};
+use crate::document::synopsis::{Demand, End};
 use crate::document::table::Table;
-use crate::inputs::profiles::{SHAPES, band, rest};
+use crate::document::{BAND_LIMIT, VALUE_LIMIT};
+use crate::inputs::profiles::{SHAPES, any_profile, band, rest};
 use crate::inputs::random::Random;
 
 /// All lengths up to eight; six more often, since of these it alone could need a term more for a setpoint in filler.
@@ -28,7 +29,8 @@ pub fn run(comparison: &mut Comparison) {
     for slots in 1..=4 {
         for_all(&[-1, 0, 1], slots, |setpoints| {
             for rest in -2..=2 {
-                synopses_and_node_sets(comparison, setpoints, rest);
+                synopses_and_node_sets(comparison, &Demand::common(setpoints, rest, 0));
+                small_bands(comparison, &mut random, setpoints, rest);
             }
         });
     }
@@ -37,84 +39,117 @@ pub fn run(comparison: &mut Comparison) {
         let middle = MIDDLES[round % MIDDLES.len()];
         let mut near = |least, greatest| (middle + random.between(least, greatest)).clamp(-VALUE_LIMIT, VALUE_LIMIT);
         let setpoints: Vec<i32> = (0..slots).map(|_| near(-1, 1 + i32::from(slots < 3))).collect();
-        synopses_and_node_sets(comparison, &setpoints, near(-3, 3));
+        let rest = near(-3, 3);
+        synopses_and_node_sets(comparison, &Demand::common(&setpoints, rest, 0));
+        let bands = (0..slots).map(|_| random.between(0, 1)).collect();
+        synopses_and_node_sets(comparison, &Demand { setpoints, bands, rest });
     }
     for round in 0..4_000 {
         let slots = 1 + random.below(if round % 10 == 0 { MOST_SLOTS } else { MOST_SLOTS / 2 });
         let setpoints = SHAPES[round % SHAPES.len()](&mut random, slots);
         let rest = rest(&mut random, &setpoints);
-        node_sets_and_table(comparison, &mut random, &setpoints, rest);
+        node_sets_and_table(comparison, &mut random, Demand::common(&setpoints, rest, 0));
+        let bands = (0..slots).map(|_| band(&mut random)).collect();
+        node_sets_and_table(comparison, &mut random, Demand { setpoints, bands, rest });
     }
     for shape in SHAPES {
         for slots in [6, 16, 33, 64, 200] {
             let setpoints = shape(&mut random, slots);
             let rest = rest(&mut random, &setpoints);
-            some_and_all_values(comparison, &setpoints, rest, band(&mut random));
+            some_and_all_values(comparison, Demand::common(&setpoints, rest, band(&mut random)));
+            let bands = (0..slots).map(|_| band(&mut random)).collect();
+            some_and_all_values(comparison, Demand { setpoints, bands, rest });
         }
+    }
+    for _ in 0..300 {
+        let slots = 1 + random.below(100);
+        no_greater_margin(comparison, any_profile(&mut random, slots).demand());
     }
 }
 
-fn synopses_and_node_sets(comparison: &mut Comparison, setpoints: &[i32], rest: i32) {
-    let case = format!("setpoints {setpoints:?}, rest value {rest}");
-    let by_node_sets = every_node_set(setpoints, rest);
+/// Bands of 0 to 2 in each slot: all of them for up to two slots, one chosen by chance for more.
+fn small_bands(comparison: &mut Comparison, random: &mut Random, setpoints: &[i32], rest: i32) {
+    let demand = |bands: &[i32]| Demand { setpoints: setpoints.to_vec(), bands: bands.to_vec(), rest };
+    if setpoints.len() <= 2 {
+        for_all(&[0, 1, 2], setpoints.len(), |bands| synopses_and_node_sets(comparison, &demand(bands)));
+    } else {
+        let bands: Vec<i32> = setpoints.iter().map(|_| random.between(0, 2)).collect();
+        synopses_and_node_sets(comparison, &demand(&bands));
+    }
+}
+
+fn synopses_and_node_sets(comparison: &mut Comparison, demand: &Demand) {
+    let by_node_sets = every_node_set(demand);
     let most_terms = most_terms(by_node_sets.len() - 1);
-    let by_synopses = every_synopsis(setpoints, rest, most_terms);
+    let by_synopses = every_synopsis(demand, most_terms);
     comparison.same(
         "every synopsis and every set of nodes",
-        &case,
+        &format!("{demand:?}"),
         by_synopses.as_slice(),
         &by_node_sets[..=most_terms],
     );
     for fewest in 0..=most_terms {
-        let error = by_synopses[fewest];
-        if fewest == 0 || error < by_synopses[fewest - 1] {
-            ends_of_the_best(comparison, setpoints, rest, fewest, error);
+        let margin = by_synopses[fewest];
+        if fewest == 0 || margin > by_synopses[fewest - 1] {
+            ends_of_the_best(comparison, demand, fewest, margin);
         }
     }
 }
 
 /// The first and the last of all best synopses, and by each of the other ways.
-fn ends_of_the_best(comparison: &mut Comparison, setpoints: &[i32], rest: i32, fewest: usize, error: i32) {
-    let case = format!("setpoints {setpoints:?}, rest value {rest}, band {error}");
-    let best = every_best_synopsis(setpoints, rest, fewest, error);
+fn ends_of_the_best(comparison: &mut Comparison, demand: &Demand, fewest: usize, margin: i32) {
+    let case = format!("{demand:?}, margin {margin}");
+    let best = every_best_synopsis(demand, fewest, margin);
     let ends = [End::First, End::Last];
     let [first, last] = ends.map(|end| end.of(best.iter()).expect("a best synopsis"));
-    for mut way in [Optimum::listed(setpoints, rest), Optimum::sought(setpoints, rest)] {
-        let found = ends.map(|end| way.best(error, end));
+    for mut way in [Optimum::listed(demand.clone()), Optimum::sought(demand.clone())] {
+        let found = ends.map(|end| way.best(margin, end));
         comparison.same("the first and the last of the best synopses", &case, [first, last], found.each_ref());
     }
-    comparison.coverage.tried.note(first, last);
+    let own_bands = demand.bands.iter().any(|&band| band != demand.bands[0]);
+    comparison.coverage.tried.note(own_bands, first, last);
 }
 
-fn node_sets_and_table(comparison: &mut Comparison, random: &mut Random, setpoints: &[i32], rest: i32) {
-    let case = format!("setpoints {setpoints:?}, rest value {rest}");
-    let (mut listed, mut sought) = (Optimum::listed(setpoints, rest), Optimum::sought(setpoints, rest));
-    for band in [band(random), band(random), band(random), 19_999, 20_000, 40_000] {
-        comparison.same("terms for a band", &case, listed.fewest(band), sought.fewest(band));
-        same_ends(comparison, &case, [&mut listed, &mut sought], band);
+fn node_sets_and_table(comparison: &mut Comparison, random: &mut Random, demand: Demand) {
+    let case = format!("{demand:?}");
+    let least_band = demand.least_band();
+    let (mut listed, mut sought) = (Optimum::listed(demand.clone()), Optimum::sought(demand));
+    for wider in [band(random), band(random), band(random), least_band, 19_999, 20_000, BAND_LIMIT] {
+        let margin = least_band - wider;
+        comparison.same("terms for a margin", &case, listed.fewest(margin), sought.fewest(margin));
+        same_ends(comparison, &case, [&mut listed, &mut sought], margin);
     }
     for budget in 0..2 * MOST_SLOTS {
-        let least = listed.least_band(budget);
-        comparison.same("least bands of the two ways", &case, least, sought.least_band(budget));
-        comparison.same("terms for the least band", &case, listed.fewest(least), sought.fewest(least));
-        same_ends(comparison, &case, [&mut listed, &mut sought], least);
+        let greatest = listed.greatest_margin(budget);
+        comparison.same("greatest margins of the two ways", &case, greatest, sought.greatest_margin(budget));
+        comparison.same("terms for the greatest margin", &case, listed.fewest(greatest), sought.fewest(greatest));
+        same_ends(comparison, &case, [&mut listed, &mut sought], greatest);
     }
 }
 
-fn same_ends(comparison: &mut Comparison, case: &str, ways: [&mut Optimum; 2], band: i32) {
-    let [listed, sought] = ways.map(|way| [End::First, End::Last].map(|end| way.best(band, end)));
-    comparison.same("the first and the last of the best synopses for a band", &case, listed, sought);
+fn same_ends(comparison: &mut Comparison, case: &str, ways: [&mut Optimum; 2], margin: i32) {
+    let [listed, sought] = ways.map(|way| [End::First, End::Last].map(|end| way.best(margin, end)));
+    comparison.same("the first and the last of the best synopses for a margin", &case, listed, sought);
 }
 
 /// The table for the values of each end, and for every value within the limits.
-fn some_and_all_values(comparison: &mut Comparison, setpoints: &[i32], rest: i32, band: i32) {
-    let case = format!("setpoints {setpoints:?}, rest value {rest}, band {band}");
-    let mut sought = Optimum::sought(setpoints, rest);
-    let fewest = sought.fewest(band);
-    let error = sought.least_band(fewest);
-    let all = Table::new(setpoints, rest, error, (-VALUE_LIMIT..=VALUE_LIMIT).collect());
+fn some_and_all_values(comparison: &mut Comparison, demand: Demand) {
+    let case = format!("{demand:?}");
+    let mut sought = Optimum::sought(demand.clone());
+    let fewest = sought.fewest(0);
+    let margin = sought.greatest_margin(fewest);
+    let all = Table::new(&demand, margin, (-VALUE_LIMIT..=VALUE_LIMIT).collect());
     comparison.same("terms by some values and by all", &case, fewest, all.fewest());
     for end in [End::First, End::Last] {
-        comparison.same("an end by some values and by all", &case, sought.best(band, end), all.best(end));
+        comparison.same("an end by some values and by all", &case, sought.best(0, end), all.best(end));
     }
+}
+
+/// A margin that is one greater than the greatest asks for more terms, or a slot's band has no room for it.
+fn no_greater_margin(comparison: &mut Comparison, demand: Demand) {
+    let mut sought = Optimum::sought(demand.clone());
+    let fewest = sought.fewest(0);
+    let greatest = sought.greatest_margin(fewest);
+    let is_greatest = greatest == demand.least_band() || fewest_terms(&demand, greatest + 1) > fewest;
+    comparison.same("the greatest margin of as many terms", &format!("{demand:?}"), true, is_greatest);
 }

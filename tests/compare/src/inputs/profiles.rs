@@ -1,6 +1,7 @@
 //! Profiles and synopses of many kinds.
 
 use super::random::Random;
+use crate::document::bands::Special;
 use crate::document::record::Record;
 use crate::document::synopsis::{Term, padded_length, restored};
 use crate::document::text::Profile;
@@ -119,9 +120,37 @@ pub fn band(random: &mut Random) -> i32 {
     }
 }
 
+/// An own band for a slot: of any size, near the common one, or tighter.
+fn own_band(random: &mut Random, common: i32) -> i32 {
+    match random.below(6) {
+        0 => band(random),
+        1 => 0,
+        2 => (common + random.between(1, 100)).min(BAND_LIMIT),
+        3 => (common + random.between(-3, 3)).clamp(0, BAND_LIMIT),
+        _ => random.between(0, common),
+    }
+}
+
+/// Special slots as half of the profiles have them: in some slots, around one, or in all; where the own band is drawn as the
+/// common one, its slot is none.
+pub fn specials(random: &mut Random, slots: usize, common: i32) -> Vec<Special> {
+    let drawn: Vec<usize> = match random.below(6) {
+        0 => (0..slots).filter(|_| random.below(5) == 0).collect(),
+        1 => {
+            let (middle, reach) = (random.below(slots), random.below(13));
+            (0..slots).filter(|slot| slot.abs_diff(middle) <= reach).collect()
+        }
+        2 => (0..slots).collect(),
+        _ => Vec::new(),
+    };
+    let own = drawn.into_iter().map(|slot| Special { slot, band: own_band(random, common) });
+    own.filter(|special| special.band != common).collect()
+}
+
 pub fn profile(random: &mut Random, shape: Shape, slots: usize) -> Profile {
     let setpoints = shape(random, slots);
-    Profile { rest: rest(random, &setpoints), band: band(random), setpoints }
+    let (rest, band) = (rest(random, &setpoints), band(random));
+    Profile { specials: specials(random, slots, band), ..Profile::plain(rest, band, setpoints) }
 }
 
 pub fn any_profile(random: &mut Random, slots: usize) -> Profile {
@@ -150,7 +179,9 @@ pub fn with_terms_at(record: &Record, nodes: &[usize], value: i32) -> Record {
     Record { terms, ..record.clone() }
 }
 
-/// A record that is accepted, with up to `most` terms.
+/// A record that is accepted, with up to `most` terms, half of the time with special slots.
 pub fn record(random: &mut Random, slots: usize, most: usize) -> Record {
-    Record { slots, band: band(random), rest: value(random), terms: terms(random, slots, most) }
+    let band = band(random);
+    let specials = specials(random, slots, band);
+    Record { specials, ..Record::plain(slots, band, value(random), terms(random, slots, most)) }
 }

@@ -1,4 +1,4 @@
-//! Fields as they may be typed: every form of a number, and what is no number or out of range.
+//! Fields and lines as they may be typed: every form of a number, and what is no number or out of range.
 
 use super::random::Random;
 use crate::document::text::Profile;
@@ -62,6 +62,69 @@ pub const OUT_OF_RANGE: [&[u8]; 16] = [
     b"-999,995",
 ];
 
+/// Setpoint lines with an own band that are refused, and their own bands: with 1 for a field that is no number, wherever it
+/// stands and whatever the other is; with 2; with 3.
+pub const OWN_BANDS_WRONG: [&[u8]; 40] = [
+    b"14,10 ",
+    b" ",
+    b"  ",
+    b" 0,25",
+    b"14,10  0,25",
+    b"14,10\t0,25",
+    b"14,10\xC2\xA00,25",
+    b" 14,10 0,25",
+    b"14,10 0,25 ",
+    b"14,10 0,25 0,25",
+    b"14,10 0,25 x",
+    b"14,10 0,25\t",
+    b"14,10 0,25\r",
+    b"14,10 0,25\0",
+    b"14,10 0.255",
+    b"14,10 0,2555",
+    b"14,10 +1",
+    b"14,10 1234",
+    b"14,10 ,25",
+    b"14,10 0,",
+    b"14,10 --0",
+    b"14,10 x",
+    b"14, 0,25",
+    b"x 0,25",
+    b"14.505 0,25",
+    b"1234 0,25",
+    b"300,00 x",
+    b"300,00 ",
+    b"-200,01  0",
+    b"300,00 500,00",
+    b"200,005 400,005",
+    b"-200,01 -0,01",
+    b"200,01 0,25",
+    b"-200,005 0,25",
+    b"1,00 500,00",
+    b"1,00 400,01",
+    b"1,00 400,005",
+    b"1,00 -0,01",
+    b"1,00 -0,005",
+    b"1,00 -999,995",
+];
+
+/// Setpoint lines with an own band that are accepted, at limits and in forms that round.
+pub const OWN_BANDS_RIGHT: [&[u8]; 14] = [
+    b"1,00 0",
+    b"1,00 -0",
+    b"1,00 -0,00",
+    b"1,00 -000,004",
+    b"1,00 0,004",
+    b"1,00 0,005",
+    b"1,00 400",
+    b"1,00 400,004",
+    b"1,00 399,995",
+    b"1 1",
+    b"-200,004 -000,004",
+    b"200,004 400,004",
+    b"0.5 0.5",
+    b"-0,005 0,254",
+];
+
 /// The greatest number that a field reads as, only by three digits after a comma; the least is its negative.
 pub const NUMBER_LIMIT: i32 = 100_000;
 
@@ -94,10 +157,18 @@ pub fn number(random: &mut Random, value: i32) -> Vec<u8> {
     .into_bytes()
 }
 
-/// A profile's lines, each number in some form.
+/// A profile's lines, each number in some form; some slots that are not special have the common band as their own.
 pub fn lines(random: &mut Random, profile: &Profile) -> Vec<Vec<u8>> {
-    let numbers = [profile.rest, profile.band].into_iter().chain(profile.setpoints.iter().copied());
-    numbers.map(|value| number(random, value)).collect()
+    let mut lines = vec![number(random, profile.rest), number(random, profile.band)];
+    for (&setpoint, band) in profile.setpoints.iter().zip(profile.bands()) {
+        let mut line = number(random, setpoint);
+        if band != profile.band || random.below(20) == 0 {
+            line.push(b' ');
+            line.extend(number(random, band));
+        }
+        lines.push(line);
+    }
+    lines
 }
 
 /// A profile's text, each number in some form.
