@@ -1,4 +1,4 @@
--- Every starred instance holds: numbers by computing what their fields read as, synopses and least bands by computing how many terms are needed, and the terms themselves by walking down the windows.
+-- Every starred instance holds: numbers by computing what their fields read as, synopses and least bands by computing how many terms are needed, the terms themselves by walking down the windows, and flows by their squares.
 use mathlib.Core.Path.{refl}
 use native.Mathlib.Omega.{arith}
 use mathlib.Core.List.{[], _∷_}
@@ -14,7 +14,7 @@ use Rattle.windows.specs.Windows.{covers, meet, join}
 use Rattle.subtree.specs.Answer.{answer}
 use Rattle.trace.specs.Trace.{levelTerms, upperTerms}
 use Rattle.instances.specs.Instances.{AllHold, starred, five, hundreds, lastHundred, threeHundreds, fourRising, fourFalling, zeroAndOne, zeroAndNine, own}
-use Rattle.instances.proofs.Rows.{row-builds, row-first, row-least-band}
+use Rattle.instances.proofs.Rows.{row-builds, row-first, row-least-band, row-flow}
 
 -- a row and the rows after it
 _and_ : {A B : Type 0} → A → B → A × B
@@ -52,4 +52,7 @@ starred-hold =
     and row-first zeroAndOne (pos 0) tt (omega arith) 1 (own 1 0 ∷ []) 0 (omega arith) refl (λ more. omega arith)
     and row-builds zeroAndNine (pos 1000) tt (omega arith) 10 (own 1 2 ∷ []) 1 (omega arith) refl (λ more. omega arith) (record { node = 1; value = pos 8 } ∷ []) refl refl refl
     and row-first zeroAndNine (pos 1000) tt (omega arith) 10 (own 1 2 ∷ []) 1 (omega arith) refl (λ more. omega arith)
+    and row-flow 1 _ (omega arith)
+    and row-flow 2 _ (omega arith)
+    and row-flow 400 _ (omega arith)
     and tt

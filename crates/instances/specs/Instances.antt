@@ -1,4 +1,4 @@
--- Document 01's starred instances, those of document 02's F-2 with its fault after a point, that of its F-3 with two more, two for its F-5 and four for its F-6, as one table. For the auditor. `proofs/Hold.antt` proves that every one holds.
+-- Document 01's starred instances, those of document 02's F-2 with its fault after a point, that of its F-3 with two more, two for its F-5, four for its F-6 and those of its F-7, as one table. For the auditor. `proofs/Hold.antt` proves that every one holds.
 use mathlib.Core.Path.{_≡_}
 use mathlib.Core.List.{List, [], _∷_}
 use mathlib.Core.Option.{some}
@@ -14,6 +14,7 @@ use Rattle.histogram.specs.declared.Term.{Term}
 use Rattle.histogram.specs.Errors.{greatestError}
 use Rattle.claims.specs.First.{firstSynopsis}
 use Rattle.claims.specs.LeastBand.{LeastBand}
+use Rattle.air.specs.Flows.{flowOf}
 
 pub data Instance : Type 0 where
   -- a field and the value in hundredths that it gives
@@ -26,6 +27,8 @@ pub data Instance : Type 0 where
   hasFirst : (profile : List ℤ) (rest : ℤ) (band : ℕ) (specials : List SpecialSlot) (terms : List Term) → Instance
   -- a profile, its rest value and a budget of terms, and the least band for it
   leastBand : (profile : List ℤ) (rest : ℤ) (budget band : ℕ) → Instance
+  -- a step of the air duct and its flow
+  hasFlow : (step flow : ℕ) → Instance
 
 -- a list of so many terms, with such a greatest error
 pub record CountAndError (profile : List ℤ) (rest : ℤ) (count error : ℕ) (terms : List Term) : Type 0 where
@@ -39,6 +42,7 @@ Holds (refused field number) = 1 when isNone (readsAs field) ≡ number
 Holds (builds profile rest band specials count error) = CountAndError profile rest count error (firstSynopsis profile rest (slotBands (length profile) band specials))
 Holds (hasFirst profile rest band specials terms) = firstSynopsis profile rest (slotBands (length profile) band specials) ≡ terms
 Holds (leastBand profile rest budget band) = LeastBand profile rest budget band
+Holds (hasFlow step flow) = flowOf step ≡ flow
 
 -- what every instance of a list says
 abbrev pub AllHold : List Instance → Type 0
@@ -123,4 +127,8 @@ starred =
     -- the bands 10 and 2: of the values 7 to 10 the lowest with the greatest least margin, 1, is 8. The least greatest error is that of 7, the greatest margin of slot 1 alone that of 9
     ∷ builds zeroAndNine (pos 1000) 10 (own 1 2 ∷ []) 1 8
     ∷ hasFirst zeroAndNine (pos 1000) 10 (own 1 2 ∷ []) (record { node = 1; value = pos 8 } ∷ [])
+    -- F-7: "1 gives 50, 2 gives 70, 400 gives 1,000"
+    ∷ hasFlow 1 50
+    ∷ hasFlow 2 70
+    ∷ hasFlow 400 1000
     ∷ []

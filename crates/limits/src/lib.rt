@@ -38,6 +38,9 @@ pub const SPECIALS_WRONG: u8 = 11;
 
 pub const HAS_SPECIALS: u8 = 12;
 
+// Document 02's, of F-7.
+pub const AIR_BEYOND: u8 = 13;
+
 // A number without its sign. In 64 bits the sign of the least number can be turned too.
 pub fn magnitude(number: i32) -> u32
     ensures { λ r. ⌜ r ≡ natAbs number ⌝ }

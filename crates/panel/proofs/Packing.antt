@@ -1,5 +1,5 @@
 -- Results of the calls from C: a refusal with its fields 0, and the fields of a success.
-use mathlib.Core.Path.{_≡_, refl, _∙_}
+use mathlib.Core.Path.{_≡_, refl, ap, _∙_}
 use mathlib.Core.Bool.{Bool, true, false, cond}
 use mathlib.Core.List.{List}
 use Prim.Native.Nat.{ℕ, zero, suc, _≤_, _<_}
@@ -17,7 +17,7 @@ use Rattle.histogram.specs.Errors.{greatestError, kept}
 use Rattle.verdict.specs.Verdict.{lowestBeyond}
 use Rattle.record.specs.Record.{slotsIn, restIn, termsIn, bandsIn}
 use Rattle.record_check.specs.declared.CheckAnswer.{CheckAnswer}
-use Rattle.record_check.specs.Checking.{checkRefusal, SlotRead, Checked}
+use Rattle.record_check.specs.Checking.{recordSlotRefusal, checkRefusal, SlotRead, Checked}
 use Rattle.build.specs.declared.LeastBandAnswer.{LeastBandAnswer}
 use Rattle.build.specs.LeastBand.{LeastBandFound}
 use Rattle.panel.specs.Results.{packedFields, result, slotResult, againstTextResult, leastBandOfTextRefusal, LeastBandOfText}
@@ -33,19 +33,24 @@ pub one-at-most : (test : Bool) → (1 when test) ≤ 1
 one-at-most true = omega arith
 one-at-most false = omega arith
 
--- ---- one slot of a record
-
-granted-complement : (refusal : ℕ) (setpoint : ℤ) → complement 16 (granted refusal setpoint (pos 0)) ≡ granted refusal (complement 16 setpoint) 0
-granted-complement zero setpoint = refl
-granted-complement (suc refusal) setpoint = refl
+-- ---- one number beside the refusal: the flow of a step, the lowest step for a flow, one slot of a record
 
 granted-none : (refusal : ℕ) → granted {A = ℕ} refusal 0 0 ≡ 0
 granted-none zero = refl
 granted-none (suc refusal) = refl
 
+pub number-packed : (row first refusal number : ℕ) → refusal ≡ row → number ≡ granted refusal first 0 → packedFields refusal number 0 0 ≡ result row first 0 0
+number-packed row first refusal number refusal-is number-is = rw (← refusal-is, granted-none refusal, number-is)
+
+granted-complement : (refusal : ℕ) (setpoint : ℤ) → complement 16 (granted refusal setpoint (pos 0)) ≡ granted refusal (complement 16 setpoint) 0
+granted-complement zero setpoint = refl
+granted-complement (suc refusal) setpoint = refl
+
 pub slot-packed : (bytes : List ℕ) (slot refusal : ℕ) (setpoint : ℤ) → SlotRead bytes slot refusal setpoint → packedFields refusal (complement 16 setpoint) 0 0 ≡ slotResult bytes slot
 slot-packed bytes slot refusal setpoint read =
-    rw (← read .refusal-is, granted-none refusal, read .setpoint-is, granted-complement refusal (restoredSlot (slotsIn bytes) (restIn bytes) (termsIn bytes) slot))
+    let restored = restoredSlot (slotsIn bytes) (restIn bytes) (termsIn bytes) slot in
+    number-packed (recordSlotRefusal bytes slot) (complement 16 restored) refusal (complement 16 setpoint) (read .refusal-is)
+    (ap (complement 16) (read .setpoint-is) ∙ granted-complement refusal restored)
 
 -- ---- a record against a text
 

@@ -1,4 +1,4 @@
--- The calls from C: document 01, "Building, checking, least band", its last paragraph, and "What the panel turns away"; document 02, F-1, F-5 and F-6. For the auditor.
+-- The calls from C: document 01, "Building, checking, least band", its last paragraph, and "What the panel turns away"; document 02, F-1, F-5, F-6 and F-7. For the auditor.
 -- A result packs four 16-bit fields, lowest first: the refusal's number, and three more that a refusal leaves 0.
 use mathlib.Core.Path.{_≡_}
 use mathlib.Core.Bool.{cond}
@@ -21,6 +21,7 @@ use Rattle.offers.specs.declared.Winner.the-variants.{Neither, First, Second}
 use Rattle.offers.specs.Offers.{winner}
 use Rattle.claims.specs.First.{firstSynopsis}
 use Rattle.claims.specs.LeastBand.{LeastBand}
+use Rattle.air.specs.Flows.{flowOf, flowRefusal, lowestStep, stepRefusal}
 
 -- four fields of 16 bits in one number, lowest first
 abbrev pub packedFields : ℕ → ℕ → ℕ → ℕ → ℕ
@@ -87,3 +88,11 @@ winnerResult (Second size) = packedFields 0 2 size 0
 -- the better of two offers for a text
 abbrev pub betterOfferResult : List ℕ → List ℕ → List ℕ → ℕ
 betterOfferResult text first second = winnerResult (winner text first second)
+
+-- primary air, the flow of a step: the flow, 0, 0
+abbrev pub flowResult : ℕ → ℕ
+flowResult step = result (flowRefusal step) (flowOf step) 0 0
+
+-- the lowest step for a flow: the step, 0, 0
+abbrev pub stepResult : ℕ → ℕ
+stepResult flow = result (stepRefusal flow) (lowestStep flowOf flow) 0 0

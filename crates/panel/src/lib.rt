@@ -1,4 +1,6 @@
 // The library's face for C: numbers and byte slices alone. Every call answers with one number of four 16-bit fields.
+use air::flow_of_step;
+use air::step_for_flow;
 use bits::complement_of;
 use build::build_first;
 use build::least_band;
@@ -12,7 +14,7 @@ use record_write::write_for_bands;
 ghost use mathlib.Core.Path.{_≡_};
 ghost use lib.IntN.{natAbs};
 ghost use Rattle.limits.specs.Answers.{_when_};
-ghost use Rattle.panel.specs.Results.{packedFields, slotResult, againstTextResult, TextToRecord, LeastBandOfText, betterOfferResult};
+ghost use Rattle.panel.specs.Results.{packedFields, slotResult, againstTextResult, TextToRecord, LeastBandOfText, betterOfferResult, flowResult, stepResult};
 ghost use Rattle.panel.specs.Inner.{Fields, RecordBuilt};
 ghost use Rattle.build.specs.Inner.{KnownProfile};
 
@@ -140,6 +142,24 @@ pub extern "C" fn panel_better_offer(text: &[u8], first: &[u8], second: &[u8]) -
         Winner::First(size) => pack(0, 1, size as u64, 0),
         Winner::Second(size) => pack(0, 2, size as u64, 0),
     }
+}
+
+// The flow of a step of the air duct, by the factory's table.
+#[no_mangle]
+pub extern "C" fn panel_flow_of_step(step: u64) -> u64
+    ensures { λ r. ⌜ r ≡ flowResult step ⌝ }
+{
+    let answer = flow_of_step(step);
+    pack(answer.refusal as u64, answer.flow as u64, 0, 0)
+}
+
+// The lowest step of the air duct whose flow reaches a given one.
+#[no_mangle]
+pub extern "C" fn panel_step_for_flow(flow: u64) -> u64
+    ensures { λ r. ⌜ r ≡ stepResult flow ⌝ }
+{
+    let answer = step_for_flow(flow);
+    pack(answer.refusal as u64, answer.step as u64, 0, 0)
 }
 
 // Four fields in one number, lowest first.

@@ -10,10 +10,10 @@ use lib.IntN.{ℤ}
 use lib.ListN.{length}
 use borrow.Author.Count.{below-none, below-more}
 use borrow.Author.Tests.{le-leb, lt-leb, lt-ltb, le-ltb}
+use Rattle.limits.proofs.Lowest.{lowest-is}
 use Rattle.histogram.specs.Errors.{slotBand, greatest, least}
 use Rattle.histogram.proofs.Kept.{every-passes, one-fails}
 use Rattle.verdict.specs.Inner.{difference, Compared}
-use Rattle.verdict.proofs.Verdicts.{lowest-is}
 
 -- the least of 40,000 and what a function gives for 0, 1 and on, `count` of them
 unfoldable pub leastOf : (ℕ → ℕ) → ℕ → ℕ

@@ -10,6 +10,7 @@ use lib.IntN.{ℤ, pos, natAbs, _-ℤ_}
 use lib.ListN.{length, getD, take, drop, length-take, length-drop, List·getD-eq-default}
 use lib.Seq.{getD-take, getD-drop}
 use Rattle.limits.proofs.Beyond.{within-all}
+use Rattle.limits.proofs.Lowest.{lowest-same}
 use Rattle.histogram.specs.Tree.{padded}
 use Rattle.histogram.specs.Terms.{paired}
 use Rattle.histogram.specs.Restored.{restoredAt, restoredSlot, pathNodes}
@@ -22,7 +23,7 @@ use Rattle.histogram.proofs.Within.{restored-within}
 use Rattle.verdict.specs.declared.Verdict.{Verdict}
 use Rattle.verdict.specs.Verdict.{Judged}
 use Rattle.verdict.specs.Inner.{difference, Comparable, Compared, Judgeable}
-use Rattle.verdict.proofs.Verdicts.{lowest-same, greatest-same}
+use Rattle.verdict.proofs.Verdicts.{greatest-same}
 
 module _ (profile : List ℤ) (bands : List ℕ) (rest : ℤ) (nodes : List ℕ) (values : List ℤ) (asked : Judgeable profile bands rest nodes values)
     (first : ℕ) (first-is : first ≡ padded (length profile)) (after : List ℤ) (room : 2 * first ≤ length after)

@@ -7,10 +7,10 @@ use lib.Dec.{T, leb, ltb}
 use lib.IntN.{ℤ, pos, _-ℤ_, natAbs}
 use lib.ListN.{length, getD}
 use Rattle.limits.specs.Limits.{anyBeyond}
+use Rattle.limits.specs.Lowest.{lowest}
 use Rattle.histogram.specs.Terms.{paired, valid}
 use Rattle.histogram.specs.Errors.{setpointOf, slotBand, greatest, least, every}
 use Rattle.verdict.specs.declared.Verdict.{Verdict}
-use Rattle.verdict.specs.Verdict.{lowest}
 
 -- a profile of a slot or more with their bands, and a synopsis that can be judged
 pub record Judgeable (profile : List ℤ) (bands : List ℕ) (rest : ℤ) (nodes : List ℕ) (values : List ℤ) : Type 0 where

@@ -1,18 +1,14 @@
 -- The verdict on a synopsis: document 01, "Building, checking, least band", what the check answers, as document 02's F-6 has it. For the auditor.
 use mathlib.Core.Path.{_≡_}
-use mathlib.Core.Bool.{Bool, cond}
+use mathlib.Core.Bool.{cond}
 use mathlib.Core.List.{List}
-use Prim.Native.Nat.{ℕ, zero, suc}
+use Prim.Native.Nat.{ℕ}
 use lib.Dec.{ltb}
 use lib.IntN.{ℤ}
+use Rattle.limits.specs.Lowest.{lowest}
 use Rattle.histogram.specs.declared.Term.{Term}
 use Rattle.histogram.specs.Errors.{slotError, slotsOf, slotBand, greatestError, leastMargin, kept}
 use Rattle.verdict.specs.declared.Verdict.{Verdict}
-
--- the lowest of 0, 1 and on, `count` of them, that passes a test; `count` where none does
-unfoldable pub lowest : (ℕ → Bool) → ℕ → ℕ
-lowest test zero = 0
-lowest test (suc count) = cond (test 0) 0 (suc (lowest (λ k. test (suc k)) count))
 
 -- "the lowest slot whose error exceeds the band", which is the slot's
 abbrev pub lowestBeyond : List ℤ → ℤ → List Term → List ℕ → ℕ

@@ -1,0 +1,6 @@
+pub mod Answers
+pub mod Entries
+pub mod FactoryTable
+pub mod LowestStep
+pub mod Roots
+pub mod Searching
