@@ -147,6 +147,12 @@ def offers(setpoints):
     ]
 
 
+def air():
+    """Primary air: steps 1 and 400, and flows of the table's front, middle and end."""
+    return ([Case(f"flow of step {step}", "flow_of_step", step) for step in [1, 400]]
+            + [Case(f"lowest step for flow {flow:,}", "step_for_flow", flow) for flow in [1, 500, 1000]])
+
+
 def other_calls():
     """The calls that build nothing."""
     rng = random.Random(1023)
@@ -171,4 +177,4 @@ def other_calls():
     for budget in [0, 16, 255]:
         for shape in ["512 random", "512 on a ramp"]:
             cases.append(Case(f"least band of {shape}, budget {budget}", "least_band_of_text", budget, profile(0, setpoints[shape])))
-    return readings() + cases + offers(setpoints["512 random"])
+    return readings() + cases + offers(setpoints["512 random"]) + air()

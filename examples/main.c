@@ -1,8 +1,9 @@
 /* A first program on the burner panel's library: profile text to record, slots read back, the record
  * checked against its text, the least band for a few budgets, and the better of two offers.
  * A profile with special slots has no least band, and its record is a version 2.
+ * Primary air stands by itself: the lowest step for a flow that the burnerman wants, and what that step gives.
  *
- *     main            the profiles below, and a text that is refused
+ *     main            the profiles below, a text that is refused, and some flows
  *     main FILE       the profile text in a file
  */
 #include "panel.h"
@@ -40,6 +41,7 @@ static const char *meaning(enum panel_refusal refusal)
     case PANEL_NO_SUCH_SLOT: return "there is no such slot";
     case PANEL_SPECIALS_WRONG: return "the record's special slots are wrong";
     case PANEL_HAS_SPECIALS: return "a profile with special slots has no least band";
+    case PANEL_AIR_BEYOND: return "there is no such step or flow";
     }
     return "unknown";
 }
@@ -150,6 +152,26 @@ static void compare_offers(size_t record_len, size_t text_len)
     printf("\n");
 }
 
+/* Finds the lowest step for a flow, and what that step gives, which may be more. */
+static void find_step(uint64_t wanted)
+{
+    uint64_t found = panel_step_for_flow(wanted);
+    if (is_refused("step for a flow", found))
+        return;
+    uint64_t given = panel_flow_of_step(panel_step(found));
+    if (is_refused("flow of a step", given))
+        return;
+    printf("flow %u: step %u, which gives %u\n", (unsigned)wanted, (unsigned)panel_step(found), (unsigned)panel_flow(given));
+}
+
+static void find_some_steps(void)
+{
+    static const uint64_t flows[] = { 0, 50, 51, 707, PANEL_MOST_FLOW, PANEL_MOST_FLOW + 1 };
+    printf("== primary air\n");
+    for (size_t i = 0; i < sizeof flows / sizeof flows[0]; i++)
+        find_step(flows[i]);
+}
+
 /* The answer is the program's exit status. */
 static int fire(const char *name, size_t text_len)
 {
@@ -195,5 +217,6 @@ int main(int argc, char **argv)
     fire_embedded("faulty", FAULTY);
     fire_embedded("several", SEVERAL);
     fire_embedded("own band", OWN_BAND);
+    find_some_steps();
     return fire_embedded("embedded", EMBEDDED);
 }

@@ -1,5 +1,6 @@
-/* The burner panel's five calls for C firmware: profile text to record, one slot of a record,
- * record against text, least band of a text, the better of two offers.
+/* The burner panel's seven calls for C firmware: profile text to record, one slot of a record,
+ * record against text, least band of a text, the better of two offers; and for primary air, which has nothing to do with
+ * profiles, the flow of a step and the lowest step for a flow.
  *
  * A value (setpoint, rest value, band, error) is a whole number of hundredths: 14,50 is 1450. A number in a text may have a
  * third digit after a comma, which is rounded half away from zero: 14,505 is 1451 and -0,005 is -1. After a point three digits
@@ -12,6 +13,9 @@
  *
  * A profile has the slots of its text and no others: where their number is no power of two the tree has leaves past the last
  * slot, and no call looks at what a record restores there.
+ *
+ * A step is one of the air duct's 401 steps of differential pressure, 0 to 400; a flow is in thousandths, 0 to 1,000. The
+ * factory's table gives the flow of each step: the whole part of the square root of 2,500 times the step.
  *
  * Every call returns four fields of 16 bits in one number; the functions below take them out.
  * The lowest field is the refusal's number, 0 for success. A refusal leaves the other fields 0
@@ -44,6 +48,8 @@ extern "C" {
 #define PANEL_MOST_BAND 40000
 #define PANEL_MOST_SLOTS 512
 #define PANEL_MOST_BUDGET 1023
+#define PANEL_MOST_STEP 400
+#define PANEL_MOST_FLOW 1000
 
 /* The bytes of the longest line of the first two: eight characters, as -200,004, and the line end. */
 #define PANEL_LONGEST_LINE 9
@@ -79,7 +85,8 @@ enum panel_refusal {
     PANEL_NO_SUCH_SLOT = 10,   /* the slot asked for is not below the record's number of slots */
     PANEL_SPECIALS_WRONG = 11, /* a version 2 with no special slot; one not below the record's number of slots, or not ascending;
                                   a band of one above 400,00, or equal to the common band */
-    PANEL_HAS_SPECIALS = 12    /* the text has special slots, and so no least band */
+    PANEL_HAS_SPECIALS = 12,   /* the text has special slots, and so no least band */
+    PANEL_AIR_BEYOND = 13      /* step above 400, or flow above 1,000 */
 };
 
 /* Builds the synopsis of a profile text with the fewest terms that keeps every slot's band and, among those, the greatest
@@ -115,6 +122,17 @@ uint64_t panel_least_band_of_text(const uint8_t *text, uint64_t text_len, uint64
  * Gives panel_winner and panel_winner_bytes: the winning record is so many bytes from `first` or from `second` on.
  * Refuses nothing: with no candidate, or a text that is refused, the winner is PANEL_NO_OFFER. */
 uint64_t panel_better_offer(const uint8_t *text, uint64_t text_len, const uint8_t *first, uint64_t first_len, const uint8_t *second, uint64_t second_len);
+
+/* Looks up the flow of a step in the factory's table: step 1 gives 50, step 400 gives 1,000.
+ * Gives panel_flow.
+ * Refuses a step above 400 with 13. */
+uint64_t panel_flow_of_step(uint64_t step);
+
+/* Finds the lowest step whose flow reaches a given flow: its flow is that flow or more, and no lower step's is. It exists for
+ * every flow up to 1,000, and is step 0 for the flow 0.
+ * Gives panel_step.
+ * Refuses a flow above 1,000 with 13. */
+uint64_t panel_step_for_flow(uint64_t flow);
 
 /* Field 0 of a result is the lowest. */
 static inline uint16_t panel_field(uint64_t result, unsigned field)
@@ -189,6 +207,18 @@ static inline uint16_t panel_winner(uint64_t result)
 static inline uint16_t panel_winner_bytes(uint64_t result)
 {
     return panel_field(result, 2);
+}
+
+/* Of panel_flow_of_step. */
+static inline uint16_t panel_flow(uint64_t result)
+{
+    return panel_field(result, 1);
+}
+
+/* Of panel_step_for_flow. */
+static inline uint16_t panel_step(uint64_t result)
+{
+    return panel_field(result, 1);
 }
 
 #ifdef __cplusplus

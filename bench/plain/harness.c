@@ -33,20 +33,25 @@ struct calls {
     uint64_t (*record_against_text)(const uint8_t *, size_t, const uint8_t *, size_t);
     uint64_t (*least_band_of_text)(const uint8_t *, size_t, uint64_t);
     uint64_t (*better_offer)(const uint8_t *, size_t, const uint8_t *, size_t, const uint8_t *, size_t);
+    uint64_t (*flow_of_step)(uint64_t);
+    uint64_t (*step_for_flow)(uint64_t);
 };
 
 static const struct calls LIBRARY = {
-    "library", panel_text_to_record, panel_record_slot, panel_record_against_text, panel_least_band_of_text, panel_better_offer
+    "library", panel_text_to_record, panel_record_slot, panel_record_against_text, panel_least_band_of_text, panel_better_offer,
+    panel_flow_of_step, panel_step_for_flow
 };
 
 static const struct calls PLAIN = {
-    "plain", plain_text_to_record, plain_record_slot, plain_record_against_text, plain_least_band_of_text, plain_better_offer
+    "plain", plain_text_to_record, plain_record_slot, plain_record_against_text, plain_least_band_of_text, plain_better_offer,
+    plain_flow_of_step, plain_step_for_flow
 };
 
-enum call { TEXT_TO_RECORD, RECORD_SLOT, RECORD_AGAINST_TEXT, LEAST_BAND_OF_TEXT, BETTER_OFFER, CALLS };
+enum call { TEXT_TO_RECORD, RECORD_SLOT, RECORD_AGAINST_TEXT, LEAST_BAND_OF_TEXT, BETTER_OFFER, FLOW_OF_STEP, STEP_FOR_FLOW, CALLS };
 
 static const char *const CALL_NAMES[CALLS] = {
-    "text_to_record", "record_slot", "record_against_text", "least_band_of_text", "better_offer"
+    "text_to_record", "record_slot", "record_against_text", "least_band_of_text", "better_offer", "flow_of_step",
+    "step_for_flow"
 };
 
 struct test_case {
@@ -89,8 +94,14 @@ static void call(void)
     case LEAST_BAND_OF_TEXT:
         result = callee->least_band_of_text(now.text, now.text_len, now.number);
         break;
-    default:
+    case BETTER_OFFER:
         result = callee->better_offer(now.text, now.text_len, now.record, now.record_len, now.second, now.second_len);
+        break;
+    case FLOW_OF_STEP:
+        result = callee->flow_of_step(now.number);
+        break;
+    default:
+        result = callee->step_for_flow(now.number);
     }
 }
 

@@ -1,4 +1,4 @@
-/* What the parts of the plain version share: limits, a profile, a synopsis. */
+/* What the parts of the plain version share: limits, packed results, a profile, a synopsis. */
 #ifndef PARTS_H
 #define PARTS_H
 
@@ -12,8 +12,20 @@ enum {
     MOST_TERMS = MOST_NODES - 1,
     MOST_VALUE = 20000,
     MOST_BAND = 40000,
-    MOST_BUDGET = 1023
+    MOST_BUDGET = 1023,
+    MOST_STEP = 400,
+    MOST_FLOW = 1000
 };
+
+static inline uint64_t refused(int refusal)
+{
+    return (uint64_t)refusal;
+}
+
+static inline uint64_t granted(unsigned first, unsigned second, unsigned third)
+{
+    return (uint64_t)first << 16 | (uint64_t)second << 32 | (uint64_t)third << 48;
+}
 
 /* A profile's setpoints, the band that each slot goes by, its own or the common one, and `leaves`, the power of two that the
  * tree stands on. A slot is special where its band is not the common one. */

@@ -6,16 +6,6 @@
 #include <stdlib.h>
 #include <string.h>
 
-static uint64_t refused(int refusal)
-{
-    return (uint64_t)refusal;
-}
-
-static uint64_t granted(unsigned first, unsigned second, unsigned third)
-{
-    return (uint64_t)first << 16 | (uint64_t)second << 32 | (uint64_t)third << 48;
-}
-
 /* The value of the lowest term on the path from a node up to the root. Terms ascend, so both go down together. */
 static int restored(const struct synopsis *synopsis, unsigned node)
 {

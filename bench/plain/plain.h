@@ -10,5 +10,7 @@ uint64_t plain_record_slot(const uint8_t *record, size_t record_len, uint64_t sl
 uint64_t plain_record_against_text(const uint8_t *record, size_t record_len, const uint8_t *text, size_t text_len);
 uint64_t plain_least_band_of_text(const uint8_t *text, size_t text_len, uint64_t budget);
 uint64_t plain_better_offer(const uint8_t *text, size_t text_len, const uint8_t *first, size_t first_len, const uint8_t *second, size_t second_len);
+uint64_t plain_flow_of_step(uint64_t step);
+uint64_t plain_step_for_flow(uint64_t flow);
 
 #endif

@@ -8,10 +8,11 @@
 #include <stdbool.h>
 #include <string.h>
 
-enum call { TEXT_TO_RECORD, RECORD_SLOT, RECORD_AGAINST_TEXT, LEAST_BAND_OF_TEXT, BETTER_OFFER, CALLS };
+enum call { TEXT_TO_RECORD, RECORD_SLOT, RECORD_AGAINST_TEXT, LEAST_BAND_OF_TEXT, BETTER_OFFER, FLOW_OF_STEP, STEP_FOR_FLOW, CALLS };
 
 static const char *const CALL_NAMES[CALLS] = {
-    "text_to_record", "record_slot", "record_against_text", "least_band_of_text", "better_offer"
+    "text_to_record", "record_slot", "record_against_text", "least_band_of_text", "better_offer", "flow_of_step",
+    "step_for_flow"
 };
 
 /* A row of the benchmark: its records are made elsewhere, or both are the one built of the text of an earlier row. */
@@ -116,8 +117,14 @@ static void call(void)
     case LEAST_BAND_OF_TEXT:
         result = panel_least_band_of_text(text, text_len, number);
         break;
-    default:
+    case BETTER_OFFER:
         result = panel_better_offer(text, text_len, record, record_len, second, second_len);
+        break;
+    case FLOW_OF_STEP:
+        result = panel_flow_of_step(number);
+        break;
+    default:
+        result = panel_step_for_flow(number);
     }
 }
 
@@ -165,6 +172,13 @@ static void ask_least_band(uint64_t budget)
 {
     number = budget;
     ask(LEAST_BAND_OF_TEXT);
+}
+
+static void ask_air(uint64_t step_or_flow)
+{
+    number = step_or_flow;
+    ask(FLOW_OF_STEP);
+    ask(STEP_FOR_FLOW);
 }
 
 /* The record and another one as offers for the text, each of them first once. */
@@ -426,6 +440,7 @@ static void ask_limits(void)
     for (size_t i = 0; i < sizeof numbers / sizeof numbers[0]; i++) {
         ask_slot(numbers[i]);
         ask_least_band(numbers[i]);
+        ask_air(numbers[i]);
     }
 }
 
@@ -505,6 +520,13 @@ static void ask_own_bands(void)
         ask_record();
 }
 
+/* Every step and every flow, and one beyond them. */
+static void ask_steps_and_flows(void)
+{
+    for (unsigned step_or_flow = 0; step_or_flow <= PANEL_MOST_FLOW + 1; step_or_flow++)
+        ask_air(step_or_flow);
+}
+
 static void ask_records(void)
 {
     take_text(GOOD);
@@ -531,6 +553,7 @@ void requests(void)
     ask_records();
     ask_past_the_end();
     ask_own_bands();
+    ask_steps_and_flows();
     for (int i = 0; i < CALLS; i++)
         print_figures(CALL_NAMES[i], most[i]);
     add_number(requests_made);

@@ -57,6 +57,14 @@ impl Comparison {
         self.answered(call, library::better_offer(text, first, second)).1
     }
 
+    pub fn flow_of_step(&mut self, step: u64) -> [u16; 4] {
+        self.answered(Call::FlowOfStep { step }, library::flow_of_step(step)).1
+    }
+
+    pub fn step_for_flow(&mut self, flow: u64) -> [u16; 4] {
+        self.answered(Call::StepForFlow { flow }, library::step_for_flow(flow)).1
+    }
+
     /// The answer, and the record where one was written as it should be.
     pub fn text_to_record(&mut self, text: &[u8], destination: usize) -> ([u16; 4], Option<Vec<u8>>) {
         self.text_to_record_over(text, destination, mark)

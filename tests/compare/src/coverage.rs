@@ -13,12 +13,17 @@ use crate::document::text::{Profile, read_text};
 use crate::kinds::{KINDS, Kind, of_building, of_check, of_choice, of_text};
 use crate::orders::{ORDERS, rows_met};
 use std::collections::HashMap;
-use std::fmt::Debug;
+use std::fmt::{Debug, Display};
 use std::hash::Hash;
 
-const AGAINST_TEXT: Calls = [false, false, true, false, false];
+const AGAINST_TEXT: Calls = [false, false, true, false, false, false, false];
 /// The last column.
-const FIRE: usize = 4;
+const FIRE: usize = 6;
+/// The calls, in two lines above their columns.
+const HEADINGS: [[&str; 7]; 2] = [
+    ["to", "one", "against", "least", "flow of", "step for", ""],
+    ["record", "slot", "text", "band", "step", "flow", "fire"],
+];
 
 #[derive(Clone, Copy, PartialEq, Eq, Hash)]
 enum Outcome {
@@ -44,7 +49,7 @@ impl Outcome {
 
     fn row(self) -> (u16, Calls, &'static str) {
         match self {
-            Outcome::Answered => (0, [true, true, false, true, true], "answered"),
+            Outcome::Answered => (0, [true, true, false, true, true, true, true], "answered"),
             Outcome::Kept => (0, AGAINST_TEXT, "kept"),
             Outcome::KeptDespiteFiller => (0, AGAINST_TEXT, "kept, and not with the last setpoint in filler"),
             Outcome::NotKept => (0, AGAINST_TEXT, "not kept"),
@@ -78,7 +83,7 @@ fn lengthened(mut demand: Demand) -> Demand {
 
 #[derive(Default)]
 pub struct Coverage {
-    met: HashMap<Outcome, [u64; 5]>,
+    met: HashMap<Outcome, [u64; 7]>,
     orders: HashMap<(u16, u16), u64>,
     texts_refused: u64,
     /// By whether the text has special slots.
@@ -100,6 +105,8 @@ impl Coverage {
             Call::RecordSlot { .. } => 1,
             Call::RecordAgainstText { .. } => 2,
             Call::LeastBandOfText { .. } => 3,
+            Call::FlowOfStep { .. } => 4,
+            Call::StepForFlow { .. } => 5,
             Call::BetterOffer { text, first, second } => return self.note_offers(text, first, second),
         };
         self.met.entry(Outcome::of(call, answer)).or_default()[column] += 1;
@@ -171,20 +178,19 @@ impl Coverage {
         self.met.entry(refusal.map_or(Outcome::Answered, Outcome::Refused)).or_default()[FIRE] += 1;
     }
 
-    fn counts(&self, outcome: Outcome) -> [u64; 5] {
+    fn counts(&self, outcome: Outcome) -> [u64; 7] {
         self.met.get(&outcome).copied().unwrap_or_default()
     }
 
     /// The table of counts; a dash where the documents give the call no such outcome.
     pub fn print(&self) {
-        println!("{:46}{:>9}{:>9}{:>9}{:>9}{:>9}", "", "to", "one", "against", "least", "");
-        println!("{:46}{:>9}{:>9}{:>9}{:>9}{:>9}", "outcome", "record", "slot", "text", "band", "fire");
+        println!("{:50}{}", "", in_columns(HEADINGS[0]));
+        println!("{:50}{}", "outcome", in_columns(HEADINGS[1]));
         for outcome in Outcome::all() {
             let (number, calls, words) = outcome.row();
             let cells = calls.iter().zip(self.counts(outcome));
-            let cells =
-                cells.map(|(&allowed, count)| if allowed { format!("{count:>9}") } else { format!("{:>9}", "-") });
-            println!("{number:>2}  {words:42}{}", cells.collect::<String>());
+            let cells = cells.map(|(&allowed, count)| if allowed { count.to_string() } else { "-".to_string() });
+            println!("{number:>2}  {words:46}{}", in_columns(cells));
         }
         let orders = ORDERS.iter().map(|order| format!("{}-{} {}", order.0, order.1, count(order, &self.orders)));
         println!("records with faults of two rows: {}", orders.collect::<Vec<_>>().join(", "));
@@ -227,6 +233,11 @@ fn count<T: Eq + Hash>(name: &T, counts: &HashMap<T, u64>) -> u64 {
 
 fn all_counted<T: Eq + Hash>(names: &[T], counts: &HashMap<T, u64>) -> bool {
     names.iter().all(|name| count(name, counts) > 0)
+}
+
+/// The cells of a line of the table, one a call.
+fn in_columns<T: Display>(cells: impl IntoIterator<Item = T>) -> String {
+    cells.into_iter().map(|cell| format!("{cell:>10}")).collect()
 }
 
 /// Names with their counts.

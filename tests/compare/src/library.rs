@@ -14,6 +14,8 @@ unsafe extern "C" {
         second: *const u8,
         second_len: usize,
     ) -> u64;
+    fn panel_flow_of_step(step: u64) -> u64;
+    fn panel_step_for_flow(flow: u64) -> u64;
 }
 
 pub fn text_to_record(text: &[u8], record: &mut [u8]) -> u64 {
@@ -34,4 +36,12 @@ pub fn least_band_of_text(text: &[u8], budget: u64) -> u64 {
 
 pub fn better_offer(text: &[u8], first: &[u8], second: &[u8]) -> u64 {
     unsafe { panel_better_offer(text.as_ptr(), text.len(), first.as_ptr(), first.len(), second.as_ptr(), second.len()) }
+}
+
+pub fn flow_of_step(step: u64) -> u64 {
+    unsafe { panel_flow_of_step(step) }
+}
+
+pub fn step_for_flow(flow: u64) -> u64 {
+    unsafe { panel_step_for_flow(flow) }
 }

@@ -1,5 +1,5 @@
 //! The second program: the documents written anew from the paper alone, and compared with the library for C and with the
-//! programs `fire` and `levels` on many inputs.
+//! programs `fire`, `levels`, `flows` and `steps` on many inputs.
 
 mod choices;
 mod comparison;

@@ -1,6 +1,7 @@
 //! The calls of the panel's firmware, and what the documents have each of them answer.
 
 use super::BUDGET_LIMIT;
+use super::air::{flow_of_step, step_for_flow};
 use super::offers::better_offer;
 use super::optimum::Optimum;
 use super::record::{Record, read_record};
@@ -17,6 +18,8 @@ pub enum Call<'a> {
     RecordAgainstText { record: &'a [u8], text: &'a [u8] },
     LeastBandOfText { text: &'a [u8], budget: u64 },
     BetterOffer { text: &'a [u8], first: &'a [u8], second: &'a [u8] },
+    FlowOfStep { step: u64 },
+    StepForFlow { flow: u64 },
 }
 
 /// The three results beside the refusal's number, or the refusal.
@@ -46,6 +49,8 @@ impl Document {
                 let [winner, bytes] = better_offer(text, first, second).1;
                 Ok([winner, bytes, 0])
             }
+            Call::FlowOfStep { step } => flow_of_step(step).map(|flow| [flow as u16, 0, 0]),
+            Call::StepForFlow { flow } => step_for_flow(flow).map(|step| [step as u16, 0, 0]),
         }
     }
 
@@ -138,6 +143,8 @@ impl fmt::Display for Call<'_> {
                 let [first, second] = [first, second].map(|buffer| hexadecimal(buffer));
                 write!(out, "better offer, first {first}, second {second}, text \"{}\"", text.escape_ascii())
             }
+            Call::FlowOfStep { step } => write!(out, "flow of a step, step {step}"),
+            Call::StepForFlow { flow } => write!(out, "step for a flow, flow {flow}"),
         }
     }
 }

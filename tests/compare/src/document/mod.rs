@@ -1,6 +1,7 @@
 //! Document 01 written a second time, from the paper alone, as document 02's requests have changed it so far: a module a section.
 //! Readings of its open places are those of docs/DECISIONS.md.
 
+pub mod air;
 pub mod bands;
 pub mod calls;
 pub mod every;
@@ -23,6 +24,9 @@ pub const BAND_LIMIT: i32 = 40_000;
 pub const SLOT_LIMIT: usize = 512;
 /// The greatest budget.
 pub const BUDGET_LIMIT: u64 = 1_023;
+/// The greatest step of the air duct, and the greatest flow.
+pub const STEP_LIMIT: u64 = 400;
+pub const FLOW_LIMIT: u64 = 1_000;
 /// The bytes of the longest line of the first two, as `-200,004`, and of the longest setpoint line, with an own band, each
 /// with its end.
 pub const LONGEST_FIRST_LINE: usize = 8 + 1;

@@ -1,5 +1,5 @@
-//! Document 01, "What the panel turns away", with the errors of document 02's F-6: every case of a row under a name of its
-//! own, so that a run can say which were met.
+//! Document 01, "What the panel turns away", with the errors of document 02's F-6 and F-7: every case of a row under a
+//! name of its own, so that a run can say which were met.
 
 #[derive(Clone, Copy, Debug, PartialEq, Eq, Hash)]
 pub enum Refusal {
@@ -50,11 +50,13 @@ pub enum Refusal {
     SpecialBandCommon,
     HasSpecials,
     HasSpecialsAndBudgetAbove,
+    StepAbove,
+    FlowAbove,
 }
 
 use Refusal::*;
 
-pub const ALL: [Refusal; 47] = [
+pub const ALL: [Refusal; 49] = [
     LineNotANumber,
     LastLineNotEnded,
     SpaceInFirstLines,
@@ -102,17 +104,21 @@ pub const ALL: [Refusal; 47] = [
     SpecialBandCommon,
     HasSpecials,
     HasSpecialsAndBudgetAbove,
+    StepAbove,
+    FlowAbove,
 ];
 
-/// Which calls can give a refusal: text to record, one slot, record against text, least band of a text, the program `fire`.
-/// The better of two offers gives none.
-pub type Calls = [bool; 5];
-const ON_TEXT: Calls = [true, false, true, true, true];
-const ON_RECORD: Calls = [false, true, true, false, false];
-const TEXT_TO_RECORD: Calls = [true, false, false, false, false];
-const ONE_SLOT: Calls = [false, true, false, false, false];
-const RECORD_AGAINST_TEXT: Calls = [false, false, true, false, false];
-const LEAST_BAND: Calls = [false, false, false, true, false];
+/// Which calls can give a refusal: text to record, one slot, record against text, least band of a text, flow of a step,
+/// step for a flow, the program `fire`. The better of two offers gives none.
+pub type Calls = [bool; 7];
+const ON_TEXT: Calls = [true, false, true, true, false, false, true];
+const ON_RECORD: Calls = [false, true, true, false, false, false, false];
+const TEXT_TO_RECORD: Calls = [true, false, false, false, false, false, false];
+const ONE_SLOT: Calls = [false, true, false, false, false, false, false];
+const RECORD_AGAINST_TEXT: Calls = [false, false, true, false, false, false, false];
+const LEAST_BAND: Calls = [false, false, false, true, false, false, false];
+const FLOW_OF_STEP: Calls = [false, false, false, false, true, false, false];
+const STEP_FOR_FLOW: Calls = [false, false, false, false, false, true, false];
 
 impl Refusal {
     /// The number returned, the calls that can return it in this case, and the case in the row's words.
@@ -165,6 +171,8 @@ impl Refusal {
             SpecialBandCommon => (11, ON_RECORD, "its band the common one"),
             HasSpecials => (12, LEAST_BAND, "the text has special slots"),
             HasSpecialsAndBudgetAbove => (12, LEAST_BAND, "the same, and a budget above 1,023"),
+            StepAbove => (13, FLOW_OF_STEP, "step above 400"),
+            FlowAbove => (13, STEP_FOR_FLOW, "flow above 1,000"),
         }
     }
 

@@ -24,6 +24,7 @@ pub fn run(comparison: &mut Comparison) {
     wrong_turnings(&mut instances);
     lengths_of_records(&mut instances);
     slots_past_the_end(&mut instances);
+    primary_air(&mut instances);
     readings(&mut instances);
 }
 
@@ -55,6 +56,16 @@ impl Instances<'_> {
 
     pub fn least_band(&mut self, name: &str, text: &[u8], budget: u64, gives: [u16; 4]) {
         let answer = self.0.least_band_of_text(text, budget);
+        self.0.same("an instance of the documents", &name, gives, answer);
+    }
+
+    fn flow(&mut self, name: &str, step: u64, gives: [u16; 4]) {
+        let answer = self.0.flow_of_step(step);
+        self.0.same("an instance of the documents", &name, gives, answer);
+    }
+
+    fn lowest_step(&mut self, name: &str, flow: u64, gives: [u16; 4]) {
+        let answer = self.0.step_for_flow(flow);
         self.0.same("an instance of the documents", &name, gives, answer);
     }
 
@@ -218,6 +229,18 @@ fn slots_past_the_end(instances: &mut Instances) {
 /// A record of two terms for F-3's profile: one over filler alone, at node 7, and slot 5's own.
 pub fn with_filler_term(band: i32, (filler, slot_5): (i32, i32)) -> Vec<u8> {
     Record::plain(6, band, 0, vec![term(7, filler), term(13, slot_5)]).bytes()
+}
+
+/// Document 02's F-7: "1 gives 50, 2 gives 70, 400 gives 1,000", and others that its rule gives.
+fn primary_air(instances: &mut Instances) {
+    for (step, flow) in [(1, 50), (2, 70), (400, 1_000), (0, 0), (3, 86), (4, 100), (399, 998)] {
+        instances.flow(&format!("the flow of step {step}"), step, [0, flow, 0, 0]);
+    }
+    instances.flow("a step above 400", 401, refused(13));
+    for (flow, step) in [(0, 0), (1, 1), (50, 1), (51, 2), (70, 2), (71, 3), (998, 399), (999, 400), (1_000, 400)] {
+        instances.lowest_step(&format!("the lowest step for flow {flow}"), flow, [0, step, 0, 0]);
+    }
+    instances.lowest_step("a flow above 1,000", 1_001, refused(13));
 }
 
 /// Places that are open or easily misread, as docs/DECISIONS.md reads them.

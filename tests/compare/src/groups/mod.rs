@@ -1,5 +1,6 @@
 //! The groups of comparisons, in the order they are run.
 
+mod air;
 mod budgets;
 mod filler;
 mod firings;
@@ -19,7 +20,7 @@ use crate::comparison::Comparison;
 
 pub type Group = fn(&mut Comparison);
 
-pub const ALL: [(&str, Group); 14] = [
+pub const ALL: [(&str, Group); 15] = [
     ("the second program against itself", self_check::run),
     ("the documents' instances", instances::run),
     ("levels of all numbers of 16 bits", levels::run),
@@ -33,5 +34,6 @@ pub const ALL: [(&str, Group); 14] = [
     ("records, good and damaged", records::run),
     ("records of version 2, by name", version_2::run),
     ("the better of two offers", offers::run),
+    ("primary air", air::run),
     ("the program fire", program::run),
 ];

@@ -1,14 +1,15 @@
 //! The second program's ways to the optimum against each other: every synopsis, every set of nodes, the table over nodes and
-//! values, for some of the values and for all; with one band for all slots and with a band for each. What the library is
-//! compared with rests on them.
+//! values, for some of the values and for all; with one band for all slots and with a band for each. And the flows of
+//! primary air against what makes a whole part of a square root. What the library is compared with rests on them.
 
 use super::firings::for_all;
 use crate::comparison::Comparison;
+use crate::document::air::{flow, lowest_step};
 use crate::document::every::{MOST_SLOTS, every_best_synopsis, every_node_set, every_synopsis};
 use crate::document::optimum::{Optimum, fewest_terms};
 use crate::document::synopsis::{Demand, End};
 use crate::document::table::Table;
-use crate::document::{BAND_LIMIT, VALUE_LIMIT};
+use crate::document::{BAND_LIMIT, FLOW_LIMIT, STEP_LIMIT, VALUE_LIMIT};
 use crate::inputs::profiles::{SHAPES, any_profile, band, rest};
 use crate::inputs::random::Random;
 
@@ -65,6 +66,8 @@ pub fn run(comparison: &mut Comparison) {
         let slots = 1 + random.below(100);
         no_greater_margin(comparison, any_profile(&mut random, slots).demand());
     }
+    flows(comparison);
+    lowest_steps(comparison);
 }
 
 /// Bands of 0 to 2 in each slot: all of them for up to two slots, one chosen by chance for more.
@@ -152,4 +155,26 @@ fn no_greater_margin(comparison: &mut Comparison, demand: Demand) {
     let greatest = sought.greatest_margin(fewest);
     let is_greatest = greatest == demand.least_band() || fewest_terms(&demand, greatest + 1) > fewest;
     comparison.same("the greatest margin of as many terms", &format!("{demand:?}"), true, is_greatest);
+}
+
+/// The square of each flow is at most 2,500 times its step, and that of the next number is more. The flows start at 0,
+/// end at 1,000 and never fall.
+fn flows(comparison: &mut Comparison) {
+    let flows: Vec<u64> = (0..=STEP_LIMIT).map(flow).collect();
+    for (step, root) in (0..).zip(&flows) {
+        let is_whole_part = root * root <= 2_500 * step && 2_500 * step < (root + 1) * (root + 1);
+        comparison.same("a flow is the whole part of a square root", &step, true, is_whole_part);
+    }
+    let ends = [flows.first(), flows.last()];
+    comparison.same("the first and the last flow", &"all steps", [Some(&0), Some(&FLOW_LIMIT)], ends);
+    comparison.same("flows never fall", &"all steps", true, flows.is_sorted());
+}
+
+/// A flow reaches another exactly where 2,500 times its step reaches the other's square; so the lowest step is that
+/// square divided by 2,500, rounded up.
+fn lowest_steps(comparison: &mut Comparison) {
+    for given in 0..=FLOW_LIMIT {
+        let rounded_up = (given * given).div_ceil(2_500);
+        comparison.same("the lowest step for a flow", &given, Some(rounded_up), lowest_step(flow, given));
+    }
 }
