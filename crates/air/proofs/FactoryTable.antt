@@ -1,5 +1,5 @@
 -- The rule of the factory's table: one test, computed at every entry, says that the entry is the flow of its step.
-use mathlib.Core.Path.{_≡_, _∙_}
+use mathlib.Core.Path.{_≡_, sym, _∙_}
 use mathlib.Core.Bool.{Bool, _&&_}
 use mathlib.Core.List.{List}
 use Prim.Native.Nat.{ℕ, suc, _*_, _≤_, _<_}
@@ -9,7 +9,7 @@ use lib.ListN.{length, getD}
 use mir.Facts.{and-yes}
 use Rattle.air.specs.Flows.{flowOf}
 use Rattle.air.specs.Inner.{LentTable}
-use Rattle.air.proofs.Roots.{root-rule, root-only}
+use Rattle.air.proofs.Roots.{flow-is}
 use Rattle.air.proofs.Entries.{passes, at-each-place}
 use Rattle.air.proofs.LowestStep.{factory}
 
@@ -21,7 +21,7 @@ isFlow step entry = leb (entry * entry) (2500 * step) && ltb (2500 * step) (suc 
 pub each-flow : (table : List ℕ) → T (passes isFlow 0 table) → (step : ℕ) → step < length table → getD table step 0 ≡ flowOf step
 each-flow table passed step within =
     let both = and-yes (leb (getD table step 0 * getD table step 0) (2500 * step)) _ (at-each-place isFlow table passed step within) in
-    root-only (record { reached = leb→le (getD table step 0 * getD table step 0) (2500 * step) (both .0); next-not = ltb→lt (2500 * step) _ (both .1) }) (root-rule (2500 * step))
+    sym (flow-is step (getD table step 0) (record { reached = leb→le (getD table step 0 * getD table step 0) (2500 * step) (both .0); next-not = ltb→lt (2500 * step) _ (both .1) }))
 
 -- such a table of 401 entries is one that can be searched
 pub factory-table : (table : List ℕ) → T (passes isFlow 0 table) → length table ≡ 401 → LentTable table

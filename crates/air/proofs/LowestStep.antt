@@ -1,5 +1,6 @@
 -- The lowest step for a flow, by any table: it is what its words say, and the only such step. And the square-root rule makes a table.
 use mathlib.Core.Path.{_≡_, sym}
+use mathlib.Core.Bool.{Bool}
 use Prim.Native.Nat.{ℕ, zero, suc, _+_, _*_, _≤_, _<_}
 use native.Mathlib.Nat.{add-zero, add-suc, le-refl, le-trans, lt-of-not-le, mul-le-mul}
 use native.Mathlib.Omega.{arith}
@@ -7,24 +8,28 @@ use lib.Dec.{leb}
 use borrow.Author.Tests.{le-leb, lt-leb, leb-true, leb-false}
 use Rattle.limits.proofs.Lowest.{lowest-passes, lowest-first, lowest-most, lowest-is}
 use Rattle.air.specs.Flows.{flowOf, IsTable, IsLowestStep, lowestStep}
-use Rattle.air.proofs.Roots.{root-rule, root-only, square-reached, root-reached}
+use Rattle.air.proofs.Roots.{root-rule, square-reached, root-reached, flow-is}
 
 module _ (flowAt : ℕ → ℕ) (flow : ℕ) where
+  -- the test that the lowest step passes first
+  abbrev reachedAt : ℕ → Bool
+  reachedAt step = leb flow (flowAt step)
+
   -- it exists for every flow that the table ends at or above
   pub lowest-rule : IsTable flowAt → flow ≤ 1000 → IsLowestStep flowAt flow (lowestStep flowAt flow)
   lowest-rule table within = record {
     is-a-step = few;
-    reaches = leb-true flow (flowAt (lowestStep flowAt flow)) (lowest-passes (λ step. leb flow (flowAt step)) 401 (omega (arith, few)));
-    no-lower = λ lower below. leb-false flow (flowAt lower) (lowest-first (λ step. leb flow (flowAt step)) 401 lower below);
+    reaches = leb-true flow (flowAt (lowestStep flowAt flow)) (lowest-passes reachedAt 401 (omega (arith, few)));
+    no-lower = λ lower below. leb-false flow (flowAt lower) (lowest-first reachedAt 401 lower below);
   }
     where
       few : lowestStep flowAt flow ≤ 400
-      few = lowest-most (λ step. leb flow (flowAt step)) 401 400 (le-leb flow (flowAt 400) (omega (arith, table .ends)))
+      few = lowest-most reachedAt 401 400 (le-leb flow (flowAt 400) (omega (arith, table .ends)))
 
   pub lowest-only : (step : ℕ) → IsLowestStep flowAt flow step → step ≡ lowestStep flowAt flow
   lowest-only step is =
       sym
-      (lowest-is (λ k. leb flow (flowAt k)) 401 step (omega (arith, is .is-a-step)) (λ lower below. lt-leb flow (flowAt lower) (is .no-lower lower below))
+      (lowest-is reachedAt 401 step (omega (arith, is .is-a-step)) (λ lower below. lt-leb flow (flowAt lower) (is .no-lower lower below))
       (le-leb flow (flowAt step) (is .reaches)))
 
 -- a table never falls, whatever number of steps lies between
@@ -36,8 +41,8 @@ rises {flowAt} table lower (suc count) within =
 -- the factory's flows are a table
 pub factory : IsTable flowOf
 factory = record {
-  starts = root-only (root-rule 0) (record { reached = omega arith; next-not = omega arith });
-  ends = root-only (root-rule 1000000) (record { reached = omega arith; next-not = omega arith });
+  starts = flow-is 0 0 (omega arith);
+  ends = flow-is 400 1000 (omega arith);
   never-falls = λ step below. square-reached (root-rule (2500 * suc step)) (flowOf step) (omega (arith, root-rule (2500 * step) .reached));
 }
 

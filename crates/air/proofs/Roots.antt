@@ -8,7 +8,7 @@ use lib.Dec.{ltb}
 use borrow.Author.Tests.{lt-ltb, ltb-true, ltb-false}
 use Rattle.limits.specs.Lowest.{lowest}
 use Rattle.limits.proofs.Lowest.{lowest-passes, lowest-first, lowest-most}
-use Rattle.air.specs.Flows.{IsWholeRoot, wholeRoot}
+use Rattle.air.specs.Flows.{IsWholeRoot, wholeRoot, flowOf}
 
 -- a number's square is above the number before it
 next-square : (number : ℕ) → number < suc number * suc number
@@ -41,3 +41,7 @@ root-reached is other below = omega (arith, is .reached, mul-le-mul below below)
 
 pub root-only : {number one other : ℕ} → IsWholeRoot number one → IsWholeRoot number other → one ≡ other
 root-only {number} {one} {other} is also = le-antisymm (square-reached also one (is .reached)) (square-reached is other (also .reached))
+
+-- so a number that is the whole part of the root is the flow
+pub flow-is : (step flow : ℕ) → IsWholeRoot (2500 * step) flow → flowOf step ≡ flow
+flow-is step flow is = root-only (root-rule (2500 * step)) is

@@ -13,8 +13,9 @@ use Rattle.histogram.specs.Errors.{greatest, least}
 use Rattle.windows.specs.Windows.{covers, meet, join}
 use Rattle.subtree.specs.Answer.{answer}
 use Rattle.trace.specs.Trace.{levelTerms, upperTerms}
+use Rattle.air.proofs.Roots.{flow-is}
 use Rattle.instances.specs.Instances.{AllHold, starred, five, hundreds, lastHundred, threeHundreds, fourRising, fourFalling, zeroAndOne, zeroAndNine, own}
-use Rattle.instances.proofs.Rows.{row-builds, row-first, row-least-band, row-flow}
+use Rattle.instances.proofs.Rows.{row-builds, row-first, row-least-band}
 
 -- a row and the rows after it
 _and_ : {A B : Type 0} → A → B → A × B
@@ -52,7 +53,7 @@ starred-hold =
     and row-first zeroAndOne (pos 0) tt (omega arith) 1 (own 1 0 ∷ []) 0 (omega arith) refl (λ more. omega arith)
     and row-builds zeroAndNine (pos 1000) tt (omega arith) 10 (own 1 2 ∷ []) 1 (omega arith) refl (λ more. omega arith) (record { node = 1; value = pos 8 } ∷ []) refl refl refl
     and row-first zeroAndNine (pos 1000) tt (omega arith) 10 (own 1 2 ∷ []) 1 (omega arith) refl (λ more. omega arith)
-    and row-flow 1 _ (omega arith)
-    and row-flow 2 _ (omega arith)
-    and row-flow 400 _ (omega arith)
+    and flow-is 1 _ (omega arith)
+    and flow-is 2 _ (omega arith)
+    and flow-is 400 _ (omega arith)
     and tt

@@ -2,7 +2,7 @@
 use mathlib.Core.Path.{_≡_, sym, _∙_}
 use mathlib.Core.Bool.{not}
 use mathlib.Core.List.{List, [], _∷_}
-use Prim.Native.Nat.{ℕ, suc, _*_, _-_, _≤_, _<_}
+use Prim.Native.Nat.{ℕ, suc, _-_, _≤_, _<_}
 use native.Mathlib.Omega.{arith}
 use lib.Dec.{T}
 use lib.IntN.{ℤ}
@@ -26,8 +26,6 @@ use Rattle.subtree.specs.Answer.{slotWindows, termsFor}
 use Rattle.subtree.proofs.Rows.{profile-needs}
 use Rattle.trace.specs.Trace.{upperTerms}
 use Rattle.trace.proofs.Walked.{profile-walked}
-use Rattle.air.specs.Flows.{IsWholeRoot, flowOf}
-use Rattle.air.proofs.Roots.{root-rule, root-only}
 use Rattle.instances.specs.Instances.{CountAndError}
 
 -- the terms that a profile's tree needs for its bands
@@ -83,7 +81,3 @@ module _ (profile : List ℤ) (rest : ℤ) (none-beyond : T (not (anyBeyond (res
       let one : (other : ℕ) → neededTerms profile rest (oneBand profile other) ≡ fewestTerms profile rest (oneBand profile other) =
       λ other. needs (oneBand profile other) (length-slotBands (length profile) other []) in
       least-band in-range (omega (arith, enough, one band)) (λ positive. omega (arith, needs-more positive, one (band - 1)))
-
--- a row of a flow: the number is the whole part of the root
-pub row-flow : (step flow : ℕ) → IsWholeRoot (2500 * step) flow → flowOf step ≡ flow
-row-flow step flow is = root-only (root-rule (2500 * step)) is
