@@ -3,13 +3,14 @@ use mathlib.Core.Path.{_≡_, sym, subst}
 use mathlib.Core.Bool.{Bool, false, not, _||_}
 use mathlib.Core.List.{List}
 use Prim.Native.Nat.{ℕ, _≤_}
+use native.Mathlib.Omega.{arith}
 use lib.Dec.{T, ltb}
 use lib.IntN.{ℤ, natAbs}
 use lib.ListN.{length}
 use lib.Signed.{nonNeg}
-use borrow.Author.Tests.{ltb-false, not-false}
+use borrow.Author.Tests.{ltb-false, not-false, le-ltb, ne-eqb}
 use Rattle.limits.specs.Limits.{beyond, outsideBand, outsideSlots, anyBeyond}
-use Rattle.limits.proofs.Beyond.{within-all, band-accepted, band-not-below}
+use Rattle.limits.proofs.Beyond.{within-all, none-beyond-range, band-accepted, band-not-below}
 use Rattle.limits.proofs.Refusals.{passed, passed-last, none-of-two, SlotsWithin, slots-within}
 use Rattle.limits.proofs.Tests.{neither-holds}
 use Rattle.limits.specs.Answers.{_when_, _then_}
@@ -17,7 +18,7 @@ use Rattle.bands.specs.declared.SpecialSlot.{SpecialSlot}
 use Rattle.bands.specs.Bands.{rightSpecials, slotBands}
 use Rattle.bands.proofs.Bands.{length-slotBands, bands-within}
 use Rattle.histogram.specs.Tree.{padded}
-use Rattle.claims.specs.Inner.{InRange}
+use Rattle.claims.specs.Best.{InRange}
 use Rattle.build.specs.Building.{valuesRefusal, bandsRefusal, buildRefusal, destinationShort, scratchShort}
 use Rattle.build.specs.LeastBand.{leastBandRefusal}
 use Rattle.build.specs.Inner.{Acceptable, Buildable}
@@ -39,6 +40,16 @@ profile-accepted profile rest none =
         rest-within = ltb-false 20000 (natAbs rest) (two .0);
       };
     }
+
+-- and 1 to 512 setpoints and a rest value in range are not refused
+pub values-accepted : (profile : List ℤ) (rest : ℤ) → 1 ≤ length profile → length profile ≤ 512 → InRange profile rest → valuesRefusal profile rest ≡ 0
+values-accepted profile rest some-slot few-slots in-range =
+    rw (
+      ne-eqb (length profile) 0 (λ none. omega arith),
+      le-ltb 512 (length profile) few-slots,
+      le-ltb 20000 (natAbs rest) (in-range .rest-within),
+      none-beyond-range profile (in-range .setpoints-within),
+    )
 
 -- no setpoint is beyond ±20,000
 pub none-beyond : (profile : List ℤ) (rest : ℤ) → valuesRefusal profile rest ≡ 0 → anyBeyond profile ≡ false

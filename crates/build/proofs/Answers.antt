@@ -55,7 +55,7 @@ module _ (profile : List ℤ) (rest band : ℤ) (specials : List SpecialSlot) (n
   )
 
 -- a profile that is built is accepted
-built-accepted : {profile : List ℤ} {rest band : ℤ} {specials : List SpecialSlot} {places numbers : ℕ} {answer : BuildAnswer} {terms : List Term}
+pub built-accepted : {profile : List ℤ} {rest band : ℤ} {specials : List SpecialSlot} {places numbers : ℕ} {answer : BuildAnswer} {terms : List Term}
     → Built profile rest band specials places numbers answer terms → answer .refusal ≡ 0 → ProfileAccepted profile rest
 built-accepted {profile} {rest} built right = profile-accepted profile rest (none-of-two (valuesRefusal profile rest) _ (sym (built .refusal-is) ∙ right) .0)
 

@@ -7,8 +7,8 @@ use lib.IntN.{ℤ}
 use lib.ListN.{length}
 use Rattle.histogram.specs.declared.Term.{Term}
 use Rattle.histogram.specs.Tree.{padded}
-use Rattle.claims.specs.Best.{Best}
-use Rattle.claims.specs.Inner.{fewestTerms, InRange}
+use Rattle.claims.specs.Best.{InRange, Best}
+use Rattle.claims.specs.Inner.{fewestTerms}
 use Rattle.claims.proofs.Exists.{walkedTerms, walked-keeps, walked-as-few}
 use Rattle.claims.proofs.Reduced.{narrowed-none}
 use Rattle.build.proofs.Trees.{few-needed}

@@ -15,10 +15,10 @@ use Rattle.histogram.specs.Tree.{height}
 use Rattle.histogram.specs.Terms.{paired, nodesOf, valuesOf}
 use Rattle.histogram.specs.Errors.{greatestError, leastMargin}
 use Rattle.histogram.proofs.Paired.{paired-again}
-use Rattle.claims.specs.Best.{Best, oneBand}
+use Rattle.claims.specs.Best.{InRange, Best, oneBand}
 use Rattle.claims.specs.First.{firstSynopsis}
 use Rattle.claims.specs.LeastBand.{LeastBand}
-use Rattle.claims.specs.Inner.{lifted, fewestTerms, narrowed, Spared, InRange}
+use Rattle.claims.specs.Inner.{lifted, fewestTerms, narrowed, Spared}
 use Rattle.claims.proofs.Lifted.{lifted-within}
 use Rattle.claims.proofs.Exists.{walkedTerms, walked-as-few}
 use Rattle.claims.proofs.First.{GreatestMargin, walked-margin, synopsis-walked, synopsis-first}

@@ -9,7 +9,8 @@ use lib.ListN.{length}
 use Rattle.histogram.specs.Tree.{height, padded}
 use Rattle.histogram.proofs.Powers.{height-reaches, height-bound}
 use Rattle.fewest.specs.Node.{missed}
-use Rattle.claims.specs.Inner.{lifted, fewestTerms, narrowed, InRange}
+use Rattle.claims.specs.Best.{InRange}
+use Rattle.claims.specs.Inner.{lifted, fewestTerms, narrowed}
 use Rattle.claims.proofs.Reduced.{length-narrowed}
 use Rattle.windows.specs.Windows.{covers}
 use Rattle.subtree.specs.Answer.{slotWindows, answer}

@@ -11,7 +11,8 @@ use Rattle.histogram.specs.Tree.{padded}
 use Rattle.histogram.specs.Terms.{paired}
 use Rattle.histogram.specs.Errors.{slotBand, greatestError, leastMargin, Keeps}
 use Rattle.verdict.specs.Inner.{Judgeable}
-use Rattle.claims.specs.Inner.{narrowed, InRange}
+use Rattle.claims.specs.Best.{InRange}
+use Rattle.claims.specs.Inner.{narrowed}
 use Rattle.claims.specs.First.{firstSynopsis}
 use Rattle.histogram.specs.declared.Term.{Term}
 use Rattle.windows.specs.Scratch.{at}

@@ -24,9 +24,9 @@ use Rattle.fewest.proofs.Best.{best-within}
 use Rattle.fewest.proofs.Binary.{level-from, level-below}
 use Rattle.fewest.proofs.Fewest.{made-reaches-fewest}
 use Rattle.fewest.proofs.Leading.{walk-leads}
-use Rattle.claims.specs.Best.{KeepingSynopsis, oneBand}
+use Rattle.claims.specs.Best.{InRange, KeepingSynopsis, oneBand}
 use Rattle.claims.specs.LeastBand.{CanKeep}
-use Rattle.claims.specs.Inner.{lifted, accepts, termNode, termValue, fewestTerms, InRange, gathered, comesIn, walked}
+use Rattle.claims.specs.Inner.{lifted, accepts, termNode, termValue, fewestTerms, gathered, comesIn, walked}
 use Rattle.claims.proofs.Lifted.{lifted-within}
 use Rattle.claims.proofs.Gathered.{gathered-looks-up, gathered-valid}
 use Rattle.claims.proofs.Theory.{near-accepted, valid-is-listed, keeps-in-theory, keeps-from-theory}

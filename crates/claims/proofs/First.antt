@@ -19,9 +19,9 @@ use Rattle.histogram.specs.Errors.{slotsOf, slotBand, least, leastMargin}
 use Rattle.histogram.proofs.Ascent.{ValidFrom, first-within, rest-valid}
 use Rattle.histogram.proofs.Margins.{least-within, least-bound}
 use Rattle.fewest.specs.Terms.{Leads}
-use Rattle.claims.specs.Best.{KeepingSynopsis, Best}
+use Rattle.claims.specs.Best.{InRange, KeepingSynopsis, Best}
 use Rattle.claims.specs.First.{comesBefore, inOrder, First, firstSynopsis}
-use Rattle.claims.specs.Inner.{lifted, termNode, termValue, fewestTerms, narrowed, Spared, InRange}
+use Rattle.claims.specs.Inner.{lifted, termNode, termValue, fewestTerms, narrowed, Spared}
 use Rattle.claims.proofs.InOrder.{lower-node, lower-value, not-lower}
 use Rattle.claims.proofs.Chosen.{first-is}
 use Rattle.claims.proofs.Exists.{walkedTerms, walked-keeps, walked-as-few, walked-leads}

@@ -13,7 +13,7 @@ lifted-within (pos n) within = omega arith
 lifted-within (negsuc n) within = omega arith
 
 -- the size of a difference of two natural numbers
-size-of-difference : (a b : ℕ) → natAbs (subℕ a b) ≡ (a - b) + (b - a)
+pub size-of-difference : (a b : ℕ) → natAbs (subℕ a b) ≡ (a - b) + (b - a)
 size-of-difference a b = split (ltb a b) refl
   where
     split : (test : Bool) → ltb a b ≡ test → natAbs (cond test (negsuc (b - suc a)) (pos (a - b))) ≡ (a - b) + (b - a)
@@ -28,12 +28,16 @@ distance-lifted (negsuc a) (pos zero) x-within y-within = omega (arith, size-of-
 distance-lifted (negsuc a) (pos (suc b)) x-within y-within = omega arith
 distance-lifted (negsuc a) (negsuc b) x-within y-within = omega (arith, size-of-difference (suc b) (suc a))
 
-pub lifted-lowered : (number : ℕ) → lifted (lowered number) ≡ number
-lifted-lowered number = split (ltb number 20000) refl
+-- a difference of two natural numbers, lifted
+pub lifted-difference : (a b : ℕ) → b ≤ 20000 + a → lifted (subℕ a b) + b ≡ 20000 + a
+lifted-difference a b below = split (ltb a b) refl
   where
-    split : (test : Bool) → ltb number 20000 ≡ test → lifted (cond test (negsuc (20000 - suc number)) (pos (number - 20000))) ≡ number
-    split true answer = let below = ltb-true number 20000 answer in omega arith
-    split false answer = let from = ltb-false number 20000 answer in omega arith
+    split : (test : Bool) → ltb a b ≡ test → lifted (cond test (negsuc (b - suc a)) (pos (a - b))) + b ≡ 20000 + a
+    split true answer = omega (arith, ltb-true a b answer)
+    split false answer = omega (arith, ltb-false a b answer)
+
+pub lifted-lowered : (number : ℕ) → lifted (lowered number) ≡ number
+lifted-lowered number = omega (arith, lifted-difference number 20000 (omega arith))
 
 -- a value within ±20,000, lifted and lowered again, is the value
 pub lowered-lifted : (z : ℤ) → natAbs z ≤ 20000 → lowered (lifted z) ≡ z

@@ -18,9 +18,9 @@ use Rattle.histogram.proofs.Order.{below-or-not}
 use Rattle.fewest.specs.Tree.{binary}
 use Rattle.fewest.proofs.Fewest.{keeping-needs-fewest}
 use Rattle.fewest.proofs.Wider.{wider-needs-no-more}
-use Rattle.claims.specs.Best.{KeepingSynopsis, oneBand}
+use Rattle.claims.specs.Best.{InRange, KeepingSynopsis, oneBand}
 use Rattle.claims.specs.LeastBand.{CanKeep, LeastBand}
-use Rattle.claims.specs.Inner.{lifted, accepts, termNode, termValue, fewestTerms, narrowed, Spared, InRange}
+use Rattle.claims.specs.Inner.{lifted, accepts, termNode, termValue, fewestTerms, narrowed, Spared}
 use Rattle.claims.proofs.Theory.{wider-accepts, valid-is-listed, keeps-in-theory}
 use Rattle.claims.proofs.Exists.{budget-suffices}
 

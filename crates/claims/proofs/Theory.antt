@@ -27,7 +27,8 @@ use Rattle.fewest.specs.Walk.{restoredFrom}
 use Rattle.fewest.specs.Walk as Theory
 use Rattle.fewest.specs.Terms.{lookup, Listed}
 use Rattle.fewest.proofs.Binary.{number-in-tree, number-at-level, level-from, level-below}
-use Rattle.claims.specs.Inner.{lifted, distance, accepts, termNode, termValue, InRange}
+use Rattle.claims.specs.Best.{InRange}
+use Rattle.claims.specs.Inner.{lifted, distance, accepts, termNode, termValue}
 use Rattle.claims.proofs.Lifted.{lifted-within, distance-lifted}
 
 -- the value of the term at a node, lifted

@@ -8,8 +8,8 @@ use lib.ListN.{length}
 use Rattle.histogram.specs.Terms.{validFrom}
 use Rattle.histogram.specs.Errors.{setpointOf, slotBand}
 use Rattle.histogram.proofs.Expected.{no-terms}
-use Rattle.claims.specs.Best.{KeepingSynopsis, oneBand}
-use Rattle.claims.specs.Inner.{fewestTerms, InRange}
+use Rattle.claims.specs.Best.{InRange, KeepingSynopsis, oneBand}
+use Rattle.claims.specs.Inner.{fewestTerms}
 use Rattle.claims.proofs.Lifted.{lifted-within, distance-lifted}
 use Rattle.claims.proofs.Reduced.{one-band, synopsis-needs}
 

@@ -1,14 +1,19 @@
--- A best synopsis: demand 3, as document 02's F-6 has it. For the auditor. Bands are given as the band that each slot goes by.
+-- A profile in range, and a best synopsis: demand 3, as document 02's F-6 has it. For the auditor. Bands are given as the band that each slot goes by.
 -- For a profile without special slots a best synopsis is what demand 3 says word for word: `BestForOneBand`, `one-band-best` and `best-for-one-band` (proofs/OneBand.antt).
 use mathlib.Core.Path.{_≡_}
 use mathlib.Core.List.{List, []}
 use Prim.Native.Nat.{ℕ, _≤_}
-use lib.IntN.{ℤ}
+use lib.IntN.{ℤ, natAbs}
 use lib.ListN.{length}
 use Rattle.bands.specs.Bands.{slotBands}
 use Rattle.histogram.specs.declared.Term.{Term}
 use Rattle.histogram.specs.Terms.{Valid}
-use Rattle.histogram.specs.Errors.{greatestError, leastMargin, Keeps}
+use Rattle.histogram.specs.Errors.{setpointOf, greatestError, leastMargin, Keeps}
+
+-- setpoints and rest value within ±20,000
+pub record InRange (profile : List ℤ) (rest : ℤ) : Type 0 where
+  pub setpoints-within : (slot : ℕ) → natAbs (setpointOf profile slot) ≤ 20000
+  pub rest-within : natAbs rest ≤ 20000
 
 -- a synopsis of a profile and rest value that keeps its bands: a valid list of terms, every slot's error within the slot's band
 pub record KeepingSynopsis (profile : List ℤ) (rest : ℤ) (bands : List ℕ) (terms : List Term) : Type 0 where

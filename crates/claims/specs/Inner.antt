@@ -4,7 +4,7 @@ use mathlib.Core.List.{List, [], _∷_, map}
 use mathlib.Core.Option.{Option, none, some}
 use Prim.Native.Nat.{ℕ, zero, suc, _+_, _-_, _/_, _≤_, _<_}
 use lib.Dec.{leb}
-use lib.IntN.{ℤ, pos, negsuc, natAbs, subℕ}
+use lib.IntN.{ℤ, pos, negsuc, subℕ}
 use lib.ListN.{length}
 use Rattle.histogram.specs.declared.Term.{Term}
 use Rattle.histogram.specs.Tree.{height, padded, levelOf}
@@ -46,11 +46,6 @@ narrowed margin bands = map (λ band. band - margin) bands
 -- a margin that every slot's band leaves room for
 pub record Spared (profile : List ℤ) (bands : List ℕ) (margin : ℕ) : Type 0 where
   pub each : (slot : ℕ) → slot < slotsOf profile → margin ≤ slotBand bands slot
-
--- setpoints and rest value within ±20,000
-pub record InRange (profile : List ℤ) (rest : ℤ) : Type 0 where
-  pub setpoints-within : (slot : ℕ) → natAbs (setpointOf profile slot) ≤ 20000
-  pub rest-within : natAbs rest ≤ 20000
 
 -- a number of 0 to 40,000 as the value that it was lifted from
 abbrev pub lowered : ℕ → ℤ

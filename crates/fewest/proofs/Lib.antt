@@ -11,5 +11,6 @@ pub mod Binary
 pub mod Rows
 pub mod Meeting
 pub mod Wider
+pub mod Joined
 pub mod Tight
 pub mod Leading

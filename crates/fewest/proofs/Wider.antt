@@ -10,7 +10,7 @@ use Rattle.fewest.proofs.Total.{total-at-most}
 use Rattle.fewest.proofs.Best.{best-within, best-costs-least}
 
 -- where every value costs no more, the cheapest is no more
-cheaper-cheapest : (top : ℕ) (costOf wider : ℕ → ℕ) → ((v : ℕ) → wider v ≤ costOf v) → (v : ℕ) → cheapest top wider v ≤ cheapest top costOf v
+pub cheaper-cheapest : (top : ℕ) (costOf wider : ℕ → ℕ) → ((v : ℕ) → wider v ≤ costOf v) → (v : ℕ) → cheapest top wider v ≤ cheapest top costOf v
 unfolding cheapest
 cheaper-cheapest top costOf wider each v =
     omega (arith, each v, each (bestValue top costOf), best-costs-least top wider (bestValue top costOf) (best-within top costOf))

@@ -27,6 +27,13 @@ least-bound f (suc zero) bound some each = each 0 (omega arith)
 least-bound f (suc (suc count)) bound some each =
     omega (arith, least-bound f (suc count) bound (omega arith) (λ k below. each k (omega arith)), each (suc count) (omega arith))
 
+-- the least of no smaller numbers is no smaller
+pub least-grows : (f g : ℕ → ℕ) (count : ℕ) → ((k : ℕ) → k < count → f k ≤ g k) → least f count ≤ least g count
+unfolding least
+least-grows f g zero each = omega arith
+least-grows f g (suc count) each =
+    least-bound g (suc count) (least f (suc count)) (omega arith) (λ k below. omega (arith, least-within f (suc count) k below, each k below))
+
 -- numbers that agree below `count` have the same least
 pub least-same : (one other : ℕ → ℕ) (count : ℕ) → ((k : ℕ) → k < count → one k ≡ other k) → least one count ≡ least other count
 unfolding least

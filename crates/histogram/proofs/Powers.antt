@@ -35,6 +35,14 @@ height-least (suc n) k within = split (leb (suc n) (2 ^ height n)) refl (height-
     split true answer before = before
     split false answer before = higher (leb-false (suc n) (2 ^ height n) answer) (below-or-not (height n) k)
 
+-- the tree over a power of two slots has that height
+pub height-of-power : (power : ℕ) → height (2 ^ power) ≡ power
+height-of-power power =
+    ⊎-elim
+    (λ lower. absurd (omega (arith, height-reaches (2 ^ power), pow-pos (height (2 ^ power)), pow-mono {i = suc (height (2 ^ power))} {j = power} lower)))
+    (λ not-lower. omega (arith, height-least (2 ^ power) power (omega arith)))
+    (below-or-not (height (2 ^ power)) power)
+
 pub level-rule : (i : ℕ) → 1 ≤ i → IsLevel i (levelOf i)
 unfolding levelOf
 level-rule zero from-one = absurd (omega arith)

@@ -1,8 +1,8 @@
 -- Every starred instance holds: numbers by computing what their fields read as, synopses and least bands by computing how many terms are needed, the terms themselves by walking down the windows, and flows by their squares.
 use mathlib.Core.Path.{refl}
 use native.Mathlib.Omega.{arith}
-use mathlib.Core.List.{[], _∷_}
-use lib.IntN.{pos}
+use mathlib.Core.List.{[], _∷_, _++_}
+use lib.IntN.{pos, negsuc}
 use Rattle.limits.specs.Limits.{anyBeyond}
 use Rattle.decimal.specs.Number.{leadingDigits, decimal}
 use Rattle.bands.specs.Bands.{bandAt, bandsFrom}
@@ -13,8 +13,9 @@ use Rattle.histogram.specs.Errors.{greatest, least}
 use Rattle.windows.specs.Windows.{covers, meet, join}
 use Rattle.subtree.specs.Answer.{answer}
 use Rattle.trace.specs.Trace.{levelTerms, upperTerms}
+use Rattle.laws.specs.Profiles.{moved, turned}
 use Rattle.air.proofs.Roots.{flow-is}
-use Rattle.instances.specs.Instances.{AllHold, starred, five, hundreds, lastHundred, threeHundreds, fourRising, fourFalling, zeroAndOne, zeroAndNine, own}
+use Rattle.instances.specs.Instances.{AllHold, starred, five, nine, hundreds, lastHundred, threeHundreds, fourRising, fourFalling, zeroAndOne, zeroAndNine, twoAndZero, atTheLimit, own}
 use Rattle.instances.proofs.Rows.{row-builds, row-first, row-least-band}
 
 -- a row and the rows after it
@@ -56,4 +57,14 @@ starred-hold =
     and flow-is 1 _ (omega arith)
     and flow-is 2 _ (omega arith)
     and flow-is 400 _ (omega arith)
+    and row-builds five (pos 0) tt (omega arith) 0 [] 0 (omega arith) refl (λ more. omega arith) (record { node = 1; value = pos 5 } ∷ []) refl refl refl
+    and row-builds nine (pos 0) tt (omega arith) 0 [] 0 (omega arith) refl (λ more. omega arith) (record { node = 1; value = pos 9 } ∷ []) refl refl refl
+    and row-builds (five ++ five) (pos 0) tt (omega arith) 0 [] 0 (omega arith) refl (λ more. omega arith) (record { node = 1; value = pos 5 } ∷ []) refl refl refl
+    and row-builds (five ++ nine) (pos 0) tt (omega arith) 0 [] 0 (omega arith) refl (λ more. omega arith) (record { node = 1; value = pos 5 } ∷ record { node = 3; value = pos 9 } ∷ []) refl refl refl
+    and row-builds twoAndZero (pos 7) tt (omega arith) 1 (own 1 2 ∷ []) 0 (omega arith) refl (λ more. omega arith) (record { node = 1; value = pos 1 } ∷ []) refl refl refl
+    and row-first twoAndZero (pos 7) tt (omega arith) 1 (own 1 2 ∷ []) 0 (omega arith) refl (λ more. omega arith)
+    and row-builds (turned twoAndZero) (negsuc 6) tt (omega arith) 1 (own 1 2 ∷ []) 0 (omega arith) refl (λ more. omega arith) (record { node = 1; value = negsuc 1 } ∷ []) refl refl refl
+    and row-first (turned twoAndZero) (negsuc 6) tt (omega arith) 1 (own 1 2 ∷ []) 0 (omega arith) refl (λ more. omega arith)
+    and row-first atTheLimit (negsuc 19992) tt (omega arith) 6 [] 4 (omega arith) refl (λ more. omega arith)
+    and row-first (moved (pos 2) atTheLimit) (negsuc 19990) tt (omega arith) 6 [] 4 (omega arith) refl (λ more. omega arith)
     and tt

@@ -16,10 +16,10 @@ use Rattle.histogram.specs.declared.Term.{Term}
 use Rattle.histogram.specs.Tree.{height}
 use Rattle.histogram.specs.Errors.{slotsOf, slotBand, greatestError, least}
 use Rattle.histogram.proofs.Margins.{least-within, least-bound}
-use Rattle.claims.specs.Best.{oneBand}
+use Rattle.claims.specs.Best.{InRange, oneBand}
 use Rattle.claims.specs.First.{firstSynopsis}
 use Rattle.claims.specs.LeastBand.{LeastBand}
-use Rattle.claims.specs.Inner.{lifted, fewestTerms, narrowed, InRange}
+use Rattle.claims.specs.Inner.{lifted, fewestTerms, narrowed}
 use Rattle.claims.proofs.Reduced.{least-band, length-narrowed}
 use Rattle.claims.proofs.First.{GreatestMargin, synopsis-walked}
 use Rattle.subtree.specs.Answer.{slotWindows, termsFor}

@@ -1,6 +1,6 @@
--- Document 01's starred instances, those of document 02's F-2 with its fault after a point, that of its F-3 with two more, two for its F-5, four for its F-6 and those of its F-7, as one table. For the auditor. `proofs/Hold.antt` proves that every one holds.
+-- Document 01's starred instances, those of document 02's F-2 with its fault after a point, that of its F-3 with two more, two for its F-5, four for its F-6, those of its F-7 and ten for its F-8, as one table. For the auditor. `proofs/Hold.antt` proves that every one holds.
 use mathlib.Core.Path.{_≡_}
-use mathlib.Core.List.{List, [], _∷_}
+use mathlib.Core.List.{List, [], _∷_, _++_}
 use mathlib.Core.Option.{some}
 use Prim.Native.Nat.{ℕ}
 use lib.IntN.{ℤ, pos, negsuc}
@@ -14,6 +14,7 @@ use Rattle.histogram.specs.declared.Term.{Term}
 use Rattle.histogram.specs.Errors.{greatestError}
 use Rattle.claims.specs.First.{firstSynopsis}
 use Rattle.claims.specs.LeastBand.{LeastBand}
+use Rattle.laws.specs.Profiles.{moved, turned}
 use Rattle.air.specs.Flows.{flowOf}
 
 pub data Instance : Type 0 where
@@ -49,9 +50,12 @@ abbrev pub AllHold : List Instance → Type 0
 AllHold [] = Unit {0}
 AllHold (one ∷ others) = Holds one × AllHold others
 
--- one slot of setpoint 5
+-- one slot of setpoint 5, and one of setpoint 9
 abbrev pub five : List ℤ
 five = pos 5 ∷ []
+
+abbrev pub nine : List ℤ
+nine = pos 9 ∷ []
 
 -- four slots of setpoints 0, 100, 0 and 100
 abbrev pub hundreds : List ℤ
@@ -79,6 +83,14 @@ zeroAndOne = pos 0 ∷ pos 1 ∷ []
 
 abbrev pub zeroAndNine : List ℤ
 zeroAndNine = pos 0 ∷ pos 9 ∷ []
+
+-- two slots: 2 and 0
+abbrev pub twoAndZero : List ℤ
+twoAndZero = pos 2 ∷ pos 0 ∷ []
+
+-- two slots at the lower limit: -20,000 and -19,995
+abbrev pub atTheLimit : List ℤ
+atTheLimit = negsuc 19999 ∷ negsuc 19994 ∷ []
 
 -- a special slot, by its slot and its own band
 abbrev pub own : ℕ → ℕ → SpecialSlot
@@ -131,4 +143,17 @@ starred =
     ∷ hasFlow 1 50
     ∷ hasFlow 2 70
     ∷ hasFlow 400 1000
+    -- F-8: one slot 5 and one slot 9 need one term each by themselves. Two slots 5 joined need one fewer than the two together, 5 and 9 joined as many
+    ∷ builds five (pos 0) 0 [] 1 0
+    ∷ builds nine (pos 0) 0 [] 1 0
+    ∷ builds (five ++ five) (pos 0) 0 [] 1 0
+    ∷ builds (five ++ nine) (pos 0) 0 [] 2 0
+    -- the bands 1 and 2 of two slots: all signs turned, neither the term nor the greatest error is as it was
+    ∷ builds twoAndZero (pos 7) 1 (own 1 2 ∷ []) 1 1
+    ∷ hasFirst twoAndZero (pos 7) 1 (own 1 2 ∷ []) (record { node = 1; value = pos 1 } ∷ [])
+    ∷ builds (turned twoAndZero) (negsuc 6) 1 (own 1 2 ∷ []) 1 2
+    ∷ hasFirst (turned twoAndZero) (negsuc 6) 1 (own 1 2 ∷ []) (record { node = 1; value = negsuc 1 } ∷ [])
+    -- two slots at the lower limit: moved by 2, the term is as it was and not moved by 2
+    ∷ hasFirst atTheLimit (negsuc 19992) 6 [] (record { node = 2; value = negsuc 19999 } ∷ [])
+    ∷ hasFirst (moved (pos 2) atTheLimit) (negsuc 19990) 6 [] (record { node = 2; value = negsuc 19999 } ∷ [])
     ∷ []

@@ -8,7 +8,7 @@ use lib.Dec.{T}
 use lib.IntN.{ℤ, pos, negsuc, natAbs}
 use lib.ListN.{getD}
 use lib.Signed.{nonNeg}
-use borrow.Author.Tests.{ltb-false}
+use borrow.Author.Tests.{ltb-false, le-ltb}
 use Rattle.limits.specs.Limits.{beyond, outsideBand, anyBeyond}
 
 -- every setpoint lies within ±20,000 where none lies beyond
@@ -22,6 +22,12 @@ within-all (setpoint ∷ profile) none k = by-test (beyond 20000 setpoint) refl 
     by-test true is-far impossible k others = absurd impossible
     by-test false is-near rest zero others = ltb-false 20000 (natAbs setpoint) is-near
     by-test false is-near rest (suc j) others = others rest j
+
+-- and where all are within, none is beyond
+pub none-beyond-range : (profile : List ℤ) → ((k : ℕ) → natAbs (getD profile k (pos 0)) ≤ 20000) → anyBeyond profile ≡ false
+unfolding anyBeyond
+none-beyond-range [] within = refl
+none-beyond-range (setpoint ∷ profile) within = rw (le-ltb 20000 (natAbs setpoint) (within 0)) (none-beyond-range profile (λ k. within (suc k)))
 
 -- a band that is not refused
 pub band-accepted : (band : ℤ) → outsideBand band ≡ false → natAbs band ≤ 40000

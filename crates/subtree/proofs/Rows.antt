@@ -21,7 +21,8 @@ use Rattle.fewest.specs.Cost.{cost, fewest}
 use Rattle.fewest.specs.Row.{Inhabited, Row}
 use Rattle.fewest.proofs.Rows.{same-set, row-needs, leaf-row}
 use Rattle.fewest.proofs.Meeting.{sets-meet, sets-apart}
-use Rattle.claims.specs.Inner.{lifted, distance, accepts, fewestTerms, InRange}
+use Rattle.claims.specs.Best.{InRange}
+use Rattle.claims.specs.Inner.{lifted, distance, accepts, fewestTerms}
 use Rattle.claims.proofs.Lifted.{lifted-within}
 use Rattle.windows.specs.Windows.{Window, inside, covers, Sorted, meet}
 use Rattle.windows.proofs.Sets.{covers-meet, covers-join, first-within, first-inside, sorted-meet}

@@ -20,7 +20,8 @@ use Rattle.fewest.specs.Tree.{binary}
 use Rattle.fewest.specs.Cost.{cost}
 use Rattle.fewest.specs.Row.{Row}
 use Rattle.fewest.proofs.Rows.{inside-no-term, outside-least-term}
-use Rattle.claims.specs.Inner.{lifted, accepts, InRange, lowered, withTerm, gathered, comesIn, walked}
+use Rattle.claims.specs.Best.{InRange}
+use Rattle.claims.specs.Inner.{lifted, accepts, lowered, withTerm, gathered, comesIn, walked}
 use Rattle.claims.proofs.Lifted.{lifted-within}
 use Rattle.claims.proofs.Exists.{walkedTerms}
 use Rattle.windows.specs.Windows.{Window, covers, Sorted}

@@ -20,7 +20,7 @@ sum-bound (pos a) (negsuc b) = natural-difference a (suc b)
 sum-bound (negsuc a) (pos b) = omega (arith, natural-difference b (suc a))
 sum-bound (negsuc a) (negsuc b) = omega arith
 
-turned-bound : (b : ℤ) → natAbs (negℤ b) ≡ natAbs b
+pub turned-bound : (b : ℤ) → natAbs (negℤ b) ≡ natAbs b
 turned-bound (pos zero) = refl
 turned-bound (pos (suc b)) = refl
 turned-bound (negsuc b) = refl
