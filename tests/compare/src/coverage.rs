@@ -1,6 +1,7 @@
 //! Which outcomes each call and the program `fire` have shown, counted by name; a run that misses one that the documents allow has failed.
 //! So has one without a profile whose fewest terms F-3 has changed, without profiles that leave F-5 a choice, without a kind
-//! that F-6 makes a difference in, or without a record with faults of two rows that have an order.
+//! that F-6 makes a difference in, without a case that F-8's laws are tried on, or without a record with faults of two rows that
+//! have an order.
 
 use crate::choices::ChoicesOfBoth;
 use crate::document::calls::{Answer, Call};
@@ -11,6 +12,7 @@ use crate::document::refusal::{ALL, Calls, Refusal};
 use crate::document::synopsis::{Demand, Term, is_kept, padded_length};
 use crate::document::text::{Profile, read_text};
 use crate::kinds::{KINDS, Kind, of_building, of_check, of_choice, of_text};
+use crate::law_cases::LawsMet;
 use crate::orders::{ORDERS, rows_met};
 use std::collections::HashMap;
 use std::fmt::{Debug, Display};
@@ -96,6 +98,8 @@ pub struct Coverage {
     pub tried: ChoicesOfBoth,
     /// Profiles that the library has built.
     built: ChoicesOfBoth,
+    /// Profiles that were joined, moved and turned.
+    pub laws: LawsMet,
 }
 
 impl Coverage {
@@ -207,10 +211,11 @@ impl Coverage {
         );
         self.tried.print("profiles of which every best synopsis was tried");
         self.built.print("profiles built");
+        self.laws.print();
     }
 
     /// Whether every call has shown every outcome that it can have, and the run the difference that F-3 makes, each choice
-    /// that F-5 has, each kind of F-6 and each order of two rows.
+    /// that F-5 has, each kind of F-6, each case of F-8's laws and each order of two rows.
     pub fn complete(&self) -> bool {
         let all_met = |outcome: Outcome| {
             outcome.row().1.iter().zip(self.counts(outcome)).all(|(&allowed, count)| !allowed || count > 0)
@@ -224,6 +229,7 @@ impl Coverage {
             && all_counted(&KINDS, &self.kinds)
             && self.tried.complete()
             && self.built.complete()
+            && self.laws.complete()
     }
 }
 

@@ -76,9 +76,9 @@ impl Kind {
     }
 }
 
-/// The kinds that are met, of those named with whether they are.
-fn met(kinds: &[(Kind, bool)]) -> Vec<Kind> {
-    kinds.iter().filter(|(_, is_met)| *is_met).map(|(kind, _)| *kind).collect()
+/// Those that are met, of what is named with whether it is.
+pub fn met<T: Copy>(named: &[(T, bool)]) -> Vec<T> {
+    named.iter().filter(|(_, is_met)| *is_met).map(|(one, _)| *one).collect()
 }
 
 /// Of a text that is accepted.

@@ -1,6 +1,8 @@
 //! The second program: the documents written anew from the paper alone, and compared with the library for C and with the
-//! programs `fire`, `levels`, `flows` and `steps` on many inputs.
+//! programs `fire`, `levels`, `flows` and `steps` on many inputs. Where the documents state a law, the library's answers are
+//! compared with each other; statements near it that are wrong are refused by the library's answers.
 
+mod built;
 mod choices;
 mod comparison;
 mod coverage;
@@ -8,6 +10,7 @@ mod document;
 mod groups;
 mod inputs;
 mod kinds;
+mod law_cases;
 mod library;
 mod orders;
 mod program;

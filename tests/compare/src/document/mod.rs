@@ -6,6 +6,7 @@ pub mod bands;
 pub mod calls;
 pub mod every;
 pub mod fields;
+pub mod laid;
 pub mod number;
 pub mod offers;
 pub mod optimum;

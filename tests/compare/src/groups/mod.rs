@@ -6,6 +6,7 @@ mod filler;
 mod firings;
 mod first;
 mod instances;
+mod laws;
 mod levels;
 mod numbers;
 mod offers;
@@ -15,12 +16,13 @@ mod records;
 mod self_check;
 mod texts;
 mod version_2;
+mod wrong_laws;
 
 use crate::comparison::Comparison;
 
 pub type Group = fn(&mut Comparison);
 
-pub const ALL: [(&str, Group); 15] = [
+pub const ALL: [(&str, Group); 17] = [
     ("the second program against itself", self_check::run),
     ("the documents' instances", instances::run),
     ("levels of all numbers of 16 bits", levels::run),
@@ -35,5 +37,7 @@ pub const ALL: [(&str, Group); 15] = [
     ("records of version 2, by name", version_2::run),
     ("the better of two offers", offers::run),
     ("primary air", air::run),
+    ("profiles joined, moved and turned", laws::run),
+    ("wrong laws, refused by example", wrong_laws::run),
     ("the program fire", program::run),
 ];
