@@ -19,6 +19,7 @@ use Rattle.bands.specs.Bands.{rightSpecials, slotBands}
 use Rattle.bands.proofs.Bands.{length-slotBands, bands-within}
 use Rattle.histogram.specs.Tree.{padded}
 use Rattle.claims.specs.Best.{InRange}
+use Rattle.claims.proofs.Range.{read-within}
 use Rattle.build.specs.Building.{valuesRefusal, bandsRefusal, buildRefusal, destinationShort, scratchShort}
 use Rattle.build.specs.LeastBand.{leastBandRefusal}
 use Rattle.build.specs.Inner.{Acceptable, Buildable}
@@ -36,7 +37,7 @@ profile-accepted profile rest none =
     record {
       slots = slots-within (length profile) (four .0);
       in-range = record {
-        setpoints-within = within-all profile (subst (λ (far : Bool). T (not far)) (sym near) tt);
+        setpoints-within = λ slot counts. within-all profile (subst (λ (far : Bool). T (not far)) (sym near) tt) slot;
         rest-within = ltb-false 20000 (natAbs rest) (two .0);
       };
     }
@@ -48,7 +49,7 @@ values-accepted profile rest some-slot few-slots in-range =
       ne-eqb (length profile) 0 (λ none. omega arith),
       le-ltb 512 (length profile) few-slots,
       le-ltb 20000 (natAbs rest) (in-range .rest-within),
-      none-beyond-range profile (in-range .setpoints-within),
+      none-beyond-range profile (read-within in-range),
     )
 
 -- no setpoint is beyond ±20,000

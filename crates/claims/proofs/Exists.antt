@@ -28,6 +28,7 @@ use Rattle.claims.specs.Best.{InRange, KeepingSynopsis, oneBand}
 use Rattle.claims.specs.LeastBand.{CanKeep}
 use Rattle.claims.specs.Inner.{lifted, accepts, termNode, termValue, fewestTerms, gathered, comesIn, walked}
 use Rattle.claims.proofs.Lifted.{lifted-within}
+use Rattle.claims.proofs.Range.{read-within}
 use Rattle.claims.proofs.Gathered.{gathered-looks-up, gathered-valid}
 use Rattle.claims.proofs.Theory.{near-accepted, valid-is-listed, keeps-in-theory, keeps-from-theory}
 
@@ -83,7 +84,7 @@ module _ {profile : List ℤ} {rest : ℤ} (in-range : InRange profile rest) (ba
   some-accepted leaf =
       let slot : ℕ = leaf - padded (length profile) in
       let setpoint : ℕ = lifted (setpointOf profile slot) in
-      record { value = setpoint; within = lifted-within (setpointOf profile slot) (in-range .setpoints-within slot); inside = near-accepted profile bands leaf setpoint (omega arith) }
+      record { value = setpoint; within = lifted-within (setpointOf profile slot) (read-within in-range slot); inside = near-accepted profile bands leaf setpoint (omega arith) }
 
   -- the terms that the walk leaves
   abbrev pub walkedTerms : List Term

@@ -1,4 +1,5 @@
 pub mod Lifted
+pub mod Range
 pub mod Theory
 pub mod Gathered
 pub mod Exists

@@ -30,6 +30,7 @@ use Rattle.fewest.proofs.Binary.{number-in-tree, number-at-level, level-from, l
 use Rattle.claims.specs.Best.{InRange}
 use Rattle.claims.specs.Inner.{lifted, distance, accepts, termNode, termValue}
 use Rattle.claims.proofs.Lifted.{lifted-within, distance-lifted}
+use Rattle.claims.proofs.Range.{read-within}
 
 -- the value of the term at a node, lifted
 lifted-term : (otherwise : ℤ) (terms : List Term) (node : ℕ) → lifted (termOr otherwise terms node) ≡ placed (lookup termNode termValue terms node) (lifted otherwise)
@@ -105,7 +106,7 @@ module _ {profile : List ℤ} {rest : ℤ} (in-range : InRange profile rest) (te
   error-at-leaf slot in-tree =
       let leaf : ℕ = padded (length profile) + slot in
       let path : pathNodes leaf ≡ suc (height (length profile)) = leaf-level (height (length profile)) leaf (omega arith) (omega arith) in
-      distance-lifted (setpointOf profile slot) (restored rest terms (pathNodes leaf) leaf) (in-range .setpoints-within slot)
+      distance-lifted (setpointOf profile slot) (restored rest terms (pathNodes leaf) leaf) (read-within in-range slot)
       (restored-within rest terms (record { passes = valid }) (in-range .rest-within) (pathNodes leaf) leaf)
       ∙ ap (λ (value : ℕ). distance (lifted (setpointOf profile slot)) value)
       (lifted-restored rest terms (pathNodes leaf) leaf ∙ ap (λ (count : ℕ). restoredFrom binary (lookup termNode termValue terms) (lifted rest) count leaf) path)

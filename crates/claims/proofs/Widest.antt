@@ -20,7 +20,7 @@ module _ {profile : List ℤ} {rest : ℤ} (in-range : InRange profile rest) whe
     valid = tt;
     keeps = record {
       every-slot = λ slot inside.
-          let setpoint-within = in-range .setpoints-within slot in
+          let setpoint-within = in-range .setpoints-within slot inside in
           subst (λ (restored : ℤ). natAbs (setpointOf profile slot -ℤ restored) ≤ slotBand (oneBand profile 40000) slot) (sym (no-terms (length profile) rest slot))
           (omega (
             arith,

@@ -2,17 +2,17 @@
 -- For a profile without special slots a best synopsis is what demand 3 says word for word: `BestForOneBand`, `one-band-best` and `best-for-one-band` (proofs/OneBand.antt).
 use mathlib.Core.Path.{_≡_}
 use mathlib.Core.List.{List, []}
-use Prim.Native.Nat.{ℕ, _≤_}
+use Prim.Native.Nat.{ℕ, _≤_, _<_}
 use lib.IntN.{ℤ, natAbs}
 use lib.ListN.{length}
 use Rattle.bands.specs.Bands.{slotBands}
 use Rattle.histogram.specs.declared.Term.{Term}
 use Rattle.histogram.specs.Terms.{Valid}
-use Rattle.histogram.specs.Errors.{setpointOf, greatestError, leastMargin, Keeps}
+use Rattle.histogram.specs.Errors.{slotsOf, setpointOf, greatestError, leastMargin, Keeps}
 
 -- setpoints and rest value within ±20,000
 pub record InRange (profile : List ℤ) (rest : ℤ) : Type 0 where
-  pub setpoints-within : (slot : ℕ) → natAbs (setpointOf profile slot) ≤ 20000
+  pub setpoints-within : (slot : ℕ) → slot < slotsOf profile → natAbs (setpointOf profile slot) ≤ 20000
   pub rest-within : natAbs rest ≤ 20000
 
 -- a synopsis of a profile and rest value that keeps its bands: a valid list of terms, every slot's error within the slot's band

@@ -46,6 +46,14 @@ saves-one : (top : ℕ) (costOf : ℕ → ℕ) (above v : ℕ) → v ≤ top →
 unfolding cheapest
 saves-one top costOf above v within = omega (arith, best-costs-least top costOf v within)
 
+-- a number that is at most another, and at most one fewer
+as-many-or-one-fewer : {count together : ℕ} → count ≤ together → together ≤ suc count → (count ≡ together) ⊎ (count + 1 ≡ together)
+as-many-or-one-fewer {count} {together} at-most at-least = split (ℕ-discrete count together)
+  where
+    split : Dec (count ≡ together) → (count ≡ together) ⊎ (count + 1 ≡ together)
+    split (yes as-many) = inl as-many
+    split (no other) = inr (omega arith)
+
 module _ (left right joined : ℕ → ℕ → Bool) (top height : ℕ)
     (left-same : (place v : ℕ) → place < 2 ^ height → joined (2 * 2 ^ height + place) v ≡ left (1 * 2 ^ height + place) v)
     (right-same : (place v : ℕ) → place < 2 ^ height → joined (3 * 2 ^ height + place) v ≡ right (1 * 2 ^ height + place) v) where
@@ -82,10 +90,4 @@ module _ (left right joined : ℕ → ℕ → Bool) (top height : ℕ)
       → let together : ℕ = fewest binary left top height rest + fewest binary right top height rest in
       let joined-fewest : ℕ = fewest binary joined top (suc height) rest in
       (joined-fewest ≡ together) ⊎ (joined-fewest + 1 ≡ together)
-  trees-need rest = split (ℕ-discrete (fewest binary joined top (suc height) rest) (fewest binary left top height rest + fewest binary right top height rest))
-    where
-      split : let together : ℕ = fewest binary left top height rest + fewest binary right top height rest in
-          let joined-fewest : ℕ = fewest binary joined top (suc height) rest in
-          Dec (joined-fewest ≡ together) → (joined-fewest ≡ together) ⊎ (joined-fewest + 1 ≡ together)
-      split (yes as-many) = inl as-many
-      split (no other) = inr (omega (arith, joined-at-most rest, joined-at-least rest))
+  trees-need rest = as-many-or-one-fewer (joined-at-most rest) (joined-at-least rest)

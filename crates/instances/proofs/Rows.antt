@@ -35,7 +35,7 @@ neededTerms profile rest bands = termsFor bands (height (length profile)) profil
 -- a profile of a slot or more and a rest value with no number beyond ±20,000
 module _ (profile : List ℤ) (rest : ℤ) (none-beyond : T (not (anyBeyond (rest ∷ profile)))) where
   in-range : InRange profile rest
-  in-range = record { setpoints-within = λ slot. within-all (rest ∷ profile) none-beyond (suc slot); rest-within = within-all (rest ∷ profile) none-beyond 0 }
+  in-range = record { setpoints-within = λ slot counts. within-all (rest ∷ profile) none-beyond (suc slot); rest-within = within-all (rest ∷ profile) none-beyond 0 }
 
   needs : (bands : List ℕ) → length bands ≡ length profile → neededTerms profile rest bands ≡ fewestTerms profile rest bands
   needs bands each-band = profile-needs in-range bands each-band

@@ -94,8 +94,8 @@ module _ {image : ℕ → ℕ} {profile profile′ : List ℤ} {rest rest′ : �
       rw (carries .as-many-slots, rest-image, mapped-restored imageOf rest terms (pathNodes (padded (length profile) + slot)) (padded (length profile) + slot))
       (omega (
         arith,
-        distance-lifted setpoint value (in-range .setpoints-within slot) value-within,
-        distance-lifted setpoint′ (imageOf value) (in-range′ .setpoints-within slot) (image-within value value-within),
+        distance-lifted setpoint value (in-range .setpoints-within slot counts) value-within,
+        distance-lifted setpoint′ (imageOf value) (in-range′ .setpoints-within slot (omega (arith, carries .as-many-slots))) (image-within value value-within),
         ap (λ (number : ℕ). distance (lifted setpoint′) number) (lifted-lowered (image (lifted value))),
         carries .no-farther slot (lifted value) counts (lifted-within value value-within),
       ))

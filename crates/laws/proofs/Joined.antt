@@ -15,6 +15,7 @@ use Rattle.histogram.proofs.Powers.{height-of-power}
 use Rattle.fewest.proofs.Joined.{trees-need}
 use Rattle.claims.specs.Best.{InRange}
 use Rattle.claims.specs.Inner.{lifted, distance, accepts, fewestTerms}
+use Rattle.claims.proofs.Range.{read-within}
 use Rattle.laws.specs.Numbers.{FewestTerms}
 use Rattle.laws.specs.Profiles.{EqualPowerLengths, TogetherOrOneFewer}
 use Rattle.laws.proofs.Numbers.{fewest-some, fewest-only}
@@ -39,7 +40,7 @@ each-of-both Holds otherwise (element ∷ first) second of-first of-second (suc 
 
 pub joined-in-range : {first second : List ℤ} {rest : ℤ} → InRange first rest → InRange second rest → InRange (first ++ second) rest
 joined-in-range {first} {second} in-first in-second = record {
-  setpoints-within = each-of-both (λ setpoint. natAbs setpoint ≤ 20000) (pos 0) first second (in-first .setpoints-within) (in-second .setpoints-within);
+  setpoints-within = λ slot counts. each-of-both (λ setpoint. natAbs setpoint ≤ 20000) (pos 0) first second (read-within in-first) (read-within in-second) slot;
   rest-within = in-first .rest-within;
 }
 

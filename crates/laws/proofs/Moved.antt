@@ -11,6 +11,7 @@ use Rattle.verdict.proofs.Differences.{turned-bound}
 use Rattle.claims.specs.Best.{InRange}
 use Rattle.claims.specs.Inner.{lifted}
 use Rattle.claims.proofs.Lifted.{lifted-within, size-of-difference, lifted-difference}
+use Rattle.claims.proofs.Range.{read-within}
 use Rattle.laws.specs.Numbers.{BestNumbers}
 use Rattle.laws.specs.Profiles.{moved, turned}
 use Rattle.laws.proofs.Carried.{Carries, same-numbers}
@@ -21,24 +22,26 @@ record Higher (number : ℕ) (profile : List ℤ) (rest : ℤ) (profile′ : Lis
   pub rest-higher : lifted rest′ ≡ lifted rest + number
   pub each-higher : (slot : ℕ) → slot < slotsOf profile → lifted (setpointOf profile′ slot) ≡ lifted (setpointOf profile slot) + number
 
-module _ {number : ℕ} {profile profile′ : List ℤ} {rest rest′ : ℤ} (higher : Higher number profile rest profile′ rest′) (in-range : InRange profile rest) (in-range′ : InRange profile′ rest′) where
-  -- up: the number is added, and what passes 40,000 is cut there
-  carries-up : Carries (λ value. min (value + number) 40000) profile rest profile′ rest′
-  carries-up = record {
-    as-many-slots = higher .as-many-slots;
-    within = λ value within. omega arith;
-    of-rest = omega (arith, higher .rest-higher, lifted-within rest′ (in-range′ .rest-within));
-    no-farther = λ slot value counts within. omega (arith, higher .each-higher slot counts, lifted-within (setpointOf profile′ slot) (in-range′ .setpoints-within slot));
-  }
+-- up: the number is added, and what passes 40,000 is cut there
+carries-up : {number : ℕ} {profile profile′ : List ℤ} {rest rest′ : ℤ} → Higher number profile rest profile′ rest′ → InRange profile′ rest′
+    → Carries (λ value. min (value + number) 40000) profile rest profile′ rest′
+carries-up {profile′ = profile′} {rest′ = rest′} higher in-range = record {
+  as-many-slots = higher .as-many-slots;
+  within = λ value within. omega arith;
+  of-rest = omega (arith, higher .rest-higher, lifted-within rest′ (in-range .rest-within));
+  no-farther = λ slot value counts within.
+      let stays = in-range .setpoints-within slot (omega (arith, higher .as-many-slots)) in
+      omega (arith, higher .each-higher slot counts, lifted-within (setpointOf profile′ slot) stays);
+}
 
-  -- down: it is taken off, down to 0
-  carries-down : Carries (λ value. value - number) profile′ rest′ profile rest
-  carries-down = record {
-    as-many-slots = sym (higher .as-many-slots);
-    within = λ value within. omega arith;
-    of-rest = omega (arith, higher .rest-higher);
-    no-farther = λ slot value counts within. omega (arith, higher .each-higher slot (omega (arith, higher .as-many-slots)));
-  }
+-- down: it is taken off, down to 0
+carries-down : {number : ℕ} {profile profile′ : List ℤ} {rest rest′ : ℤ} → Higher number profile rest profile′ rest′ → Carries (λ value. value - number) profile′ rest′ profile rest
+carries-down higher = record {
+  as-many-slots = sym (higher .as-many-slots);
+  within = λ value within. omega arith;
+  of-rest = omega (arith, higher .rest-higher);
+  no-farther = λ slot value counts within. omega (arith, higher .each-higher slot (omega (arith, higher .as-many-slots)));
+}
 
 -- a profile and rest value that lie opposite to others, slot by slot
 record Opposite (profile : List ℤ) (rest : ℤ) (profile′ : List ℤ) (rest′ : ℤ) : Type 0 where
@@ -87,7 +90,7 @@ moved-higher : (number : ℕ) {profile : List ℤ} {rest : ℤ} → InRange prof
 moved-higher number {profile} {rest} in-range = record {
   as-many-slots = length-map profile _;
   rest-higher = sum-higher rest number (in-range .rest-within);
-  each-higher = λ slot counts. ap lifted (changed-at (λ setpoint. setpoint +ℤ pos number) profile slot counts) ∙ sum-higher (setpointOf profile slot) number (in-range .setpoints-within slot);
+  each-higher = λ slot counts. ap lifted (changed-at (λ setpoint. setpoint +ℤ pos number) profile slot counts) ∙ sum-higher (setpointOf profile slot) number (in-range .setpoints-within slot counts);
 }
 
 moved-lower : (number : ℕ) {profile : List ℤ} {rest : ℤ} → InRange (moved (negsuc number) profile) (rest +ℤ negsuc number)
@@ -98,7 +101,7 @@ moved-lower number {profile} {rest} in-range = record {
   each-higher = λ slot counts.
       let same : setpointOf (moved (negsuc number) profile) slot ≡ setpointOf profile slot +ℤ negsuc number =
       changed-at (λ setpoint. setpoint +ℤ negsuc number) profile slot (omega (arith, length-map profile (λ setpoint. setpoint +ℤ negsuc number))) in
-      rw same (sum-lower (setpointOf profile slot) number (rw same at (in-range .setpoints-within slot)));
+      rw same (sum-lower (setpointOf profile slot) number (rw same at (in-range .setpoints-within slot counts)));
 }
 
 -- "Adding one number to all setpoints and the rest value, where all stay in range, leaves the term count and the least margin as they were."
@@ -107,22 +110,22 @@ pub moved-law : (number : ℤ) {profile : List ℤ} {rest : ℤ} {bands : List �
     → BestNumbers profile rest bands count margin → BestNumbers (moved number profile) (rest +ℤ number) bands count margin
 moved-law (pos number) in-range stays =
     let higher = moved-higher number in-range in
-    same-numbers (carries-up higher in-range stays) (carries-down higher in-range stays) in-range stays
+    same-numbers (carries-up higher stays) (carries-down higher) in-range stays
 moved-law (negsuc number) in-range stays =
     let higher = moved-lower number stays in
-    same-numbers (carries-down higher stays in-range) (carries-up higher stays in-range) in-range stays
+    same-numbers (carries-down higher) (carries-up higher in-range) in-range stays
 
 turned-opposite : {profile : List ℤ} {rest : ℤ} → InRange profile rest → Opposite profile rest (turned profile) (negℤ rest)
 turned-opposite {profile} {rest} in-range = record {
   as-many-slots = length-map profile negℤ;
   rest-opposite = opposite-sign rest (in-range .rest-within);
-  each-opposite = λ slot counts. rw (changed-at negℤ profile slot counts) (opposite-sign (setpointOf profile slot) (in-range .setpoints-within slot));
+  each-opposite = λ slot counts. rw (changed-at negℤ profile slot counts) (opposite-sign (setpointOf profile slot) (in-range .setpoints-within slot counts));
 }
 
 -- turned, all stay in range
 pub turned-in-range : {profile : List ℤ} {rest : ℤ} → InRange profile rest → InRange (turned profile) (negℤ rest)
 turned-in-range {profile} {rest} in-range = record {
-  setpoints-within = λ slot. rw (List·getD-map negℤ profile slot (pos 0), turned-bound (setpointOf profile slot)) (in-range .setpoints-within slot);
+  setpoints-within = λ slot counts. rw (List·getD-map negℤ profile slot (pos 0), turned-bound (setpointOf profile slot)) (read-within in-range slot);
   rest-within = rw (turned-bound rest) (in-range .rest-within);
 }
 

@@ -11,7 +11,7 @@ use Rattle.histogram.specs.declared.Term.{Term}
 use Rattle.build.specs.declared.BuildAnswer.{BuildAnswer}
 use Rattle.build.specs.Building.{Built}
 
--- building was called with some common band and special slots, by which the slots go by these bands, and with lent memory of some length, and refused nothing
+-- building was called with some common band and special slots, which give the slots these bands, and with lent memory of some length, and refused nothing
 pub record Answered (profile : List ℤ) (rest : ℤ) (bands : List ℕ) (answer : BuildAnswer) (terms : List Term) : Type 0 where
   pub band : ℤ
   pub specials : List SpecialSlot

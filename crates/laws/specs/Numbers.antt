@@ -1,5 +1,5 @@
 -- The fewest terms, and the term count and the least margin of the best synopses: demand 3, as document 02's F-6 has it, said of numbers. For the auditor.
--- For a profile of a slot or more, with setpoints and rest value in range, there is exactly one such number: `fewest-some` and `fewest-only`, `best-some` and `best-only` (proofs/Numbers.antt).
+-- For a profile of a slot or more, with setpoints and rest value in range, there is exactly one of each: `fewest-some` and `fewest-only`, `best-some` and `best-only` (proofs/Numbers.antt).
 use mathlib.Core.Path.{_≡_}
 use mathlib.Core.List.{List}
 use Prim.Native.Nat.{ℕ, _≤_}

@@ -24,6 +24,7 @@ use Rattle.fewest.proofs.Meeting.{sets-meet, sets-apart}
 use Rattle.claims.specs.Best.{InRange}
 use Rattle.claims.specs.Inner.{lifted, distance, accepts, fewestTerms}
 use Rattle.claims.proofs.Lifted.{lifted-within}
+use Rattle.claims.proofs.Range.{read-within}
 use Rattle.windows.specs.Windows.{Window, inside, covers, Sorted, meet}
 use Rattle.windows.proofs.Sets.{covers-meet, covers-join, first-within, first-inside, sorted-meet}
 use Rattle.subtree.specs.Answer.{Answer, slotWindows, everyValue, combinedBy, combined, answer, needed, termsFor}
@@ -146,7 +147,7 @@ slots-below profile bands each-band within = record {
 -- so the terms that the tree over a profile needs for its bands are the fewest terms
 module _ {profile : List ℤ} {rest : ℤ} (in-range : InRange profile rest) where
   pub profile-within : Within profile
-  profile-within = record { each = in-range .setpoints-within }
+  profile-within = record { each = read-within in-range }
 
   pub profile-needs : (bands : List ℕ) → length bands ≡ length profile → termsFor bands (height (length profile)) profile (lifted rest) ≡ fewestTerms profile rest bands
   profile-needs bands each-band =
