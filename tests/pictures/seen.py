@@ -14,7 +14,7 @@ SVG = "{http://www.w3.org/2000/svg}"
 WIDE_BAR = 60
 
 
-class Unreadable(Exception):
+class Unreadable(ValueError):
     pass
 
 
