@@ -7,11 +7,11 @@ from drawing.sheet import draw, path, text_width
 SECONDS_A_SLOT = 10
 LINE_BITS_A_SECOND = 1200
 
-HEADING_FONT, SMALL_FONT, VALUE_FONT = 28, 17, 13
+HEADING_FONT, SMALL_FONT, VALUE_FONT = 28, 17, 14
 SAMPLE_WIDTH = 32
 
 # Shapes and shades tell the parts apart where there are no colours.
-INK, PAPER, GRID = "#000000", "#ffffff", "#cccccc"
+INK, PAPER, GRID, OUTLINE = "#000000", "#ffffff", "#cccccc", "#999999"
 BAND, OWN_BAND = "#dddddd", "#aaaaaa"
 RESTORED, TERM, ERROR = "#0057a8", "#a9c6e3", "#c00000"
 
@@ -89,21 +89,29 @@ def draw_values(sheet):
 
 
 def draw_times(sheet):
-    draw_marks(sheet, "times", "minutes:seconds", range(0, sheet.slots + 1, sheet.slot_step()), clock, sheet.top, sheet.bottom)
+    """The times at which slots begin, and the profile's end where it is a round one."""
+    part = sheet.part("times", text_anchor="middle")
+    for slot in range(0, sheet.slots + 1, sheet.slot_step()):
+        draw_mark(sheet, part, slot, clock(slot), slot, sheet.top, sheet.bottom)
+    draw_caption(sheet, part, "minutes:seconds", sheet.bottom)
 
 
 def draw_slots(sheet):
-    draw_marks(sheet, "slots", "slot", range(0, sheet.slots, sheet.slot_step()), str, sheet.tree_top, sheet.tree_bottom)
+    """The same slots below the tree, each with its number in its middle."""
+    part = sheet.part("slots", text_anchor="middle")
+    for slot in range(0, sheet.slots, sheet.slot_step()):
+        draw_mark(sheet, part, slot, str(slot), slot + 0.5, sheet.tree_top, sheet.tree_bottom)
+    draw_caption(sheet, part, "slot", sheet.tree_bottom)
 
 
-def draw_marks(sheet, name, caption, slots, label, top, bottom):
-    part = sheet.part(name, text_anchor="middle")
-    for slot in slots:
-        x = sheet.x(slot)
-        mark = draw(part, "g")
-        draw(mark, "line", x1=x, x2=x, y1=top, y2=bottom, stroke=GRID)
-        draw(mark, "text", label(slot), x=x, y=bottom + 24)
-    draw(part, "text", caption, x=(sheet.left + sheet.right) / 2, y=bottom + 46, font_size=SMALL_FONT)
+def draw_mark(sheet, part, slot, label, middle, top, bottom):
+    mark = draw(part, "g")
+    draw(mark, "line", x1=sheet.x(slot), x2=sheet.x(slot), y1=top, y2=bottom, stroke=GRID)
+    draw(mark, "text", label, x=sheet.x(middle), y=bottom + 24)
+
+
+def draw_caption(sheet, part, text, above):
+    draw(part, "text", text, x=(sheet.left + sheet.right) / 2, y=above + 46, font_size=SMALL_FONT)
 
 
 def draw_upright(sheet, text, top, bottom):
@@ -117,10 +125,17 @@ def steps(sheet, first, values):
 
 
 def draw_bands(sheet, profile):
+    """Each band around its setpoint; own bands, which may be too narrow to be seen there, have a strip under the curves too."""
     part = sheet.part("bands")
     for is_own, first, after in runs(profile.specials()):
         over, under = [steps(sheet, first, ends[first:after]) for ends in (profile.highs(), profile.lows())]
         draw(part, "path", d=path(over + under[::-1]) + "Z", fill=OWN_BAND if is_own else BAND)
+        if is_own:
+            draw_bar(sheet, part, first, after, y=sheet.bottom - 6, height=6, fill=OWN_BAND)
+
+
+def draw_bar(sheet, part, first, after, **attributes):
+    draw(part, "rect", x=sheet.x(first), width=sheet.x(after) - sheet.x(first), **attributes)
 
 
 def draw_restored(sheet, restored):
@@ -184,9 +199,8 @@ def draw_term(sheet, part, node, value, slots_below, runs_fed):
     """
     y = sheet.tree_top + sheet.level_height * (node.bit_length() - 1) + 3
     draw(part, "title", f"node {node}: {value}")
-    for (first, after), fill in [(slots_below, PAPER), *((run, TERM) for run in runs_fed)]:
-        draw(part, "rect", x=sheet.x(first), width=sheet.x(after) - sheet.x(first), y=y, height=sheet.level_height - 6, fill=fill,
-             stroke=RESTORED, stroke_width=0.6)
+    for (first, after), fill, stroke in [(slots_below, PAPER, OUTLINE), *((run, TERM, RESTORED) for run in runs_fed)]:
+        draw_bar(sheet, part, first, after, y=y, height=sheet.level_height - 6, fill=fill, stroke=stroke, stroke_width=0.6)
     left, right = map(sheet.x, max(runs_fed, key=lambda run: run[1] - run[0]))
     if text_width(value, VALUE_FONT) <= right - left:
         draw(part, "text", value, x=(left + right) / 2, y=y + 14)

@@ -3,7 +3,7 @@ import itertools
 from xml.etree import ElementTree
 
 FONT = 20
-# The width of a letter in heights of the font: the words and numbers of the picture are no wider in common fonts.
+# The width of a letter in heights of the font: hardly a word or number of the picture is wider in common fonts.
 LETTER_WIDTH = 0.6
 
 
@@ -11,7 +11,6 @@ class Sheet:
     """The curves stand from top to bottom, the tree below them, and both from left to right.
 
     Units are 96 to the inch: the sheet is as wide as an A4 page with margins of 10 mm, and with a tree of ten levels not as high.
-    Its fonts are large enough for a telephone that shows the whole width.
     """
     width, margin = 720, 16
     left, right = 116, 690

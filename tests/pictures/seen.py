@@ -10,17 +10,27 @@ from xml.etree import ElementTree
 from numbers_typed import numbers, typed
 
 SVG = "{http://www.w3.org/2000/svg}"
-# A bar so wide holds every value.
-WIDE_BAR = 60
+# A bar so wide holds every value, and a label stands no further from what it names.
+WIDE_BAR = 70
+NEAR = 10
 
 
 class Unreadable(ValueError):
     pass
 
 
+def require(is_so, what):
+    if not is_so:
+        raise Unreadable(what)
+
+
 def measures(shape):
     """An element's attributes, those that are numbers as numbers."""
     return {name: float(value) if re.fullmatch(r"-?[\d.]+", value) else value for name, value in shape.attrib.items()}
+
+
+def corners(path):
+    return [tuple(map(float, corner.split())) for corner in re.split("[ML]", path["d"].rstrip("Z"))[1:]]
 
 
 def seconds(clock):
@@ -32,16 +42,15 @@ class Axis:
     """Whole numbers by the places of their marks, which must be evenly spaced."""
 
     def __init__(self, marks):
+        require(len(marks) > 1, "an axis has fewer than two marks")
         (self.start, self.first), (end, last) = marks[0], marks[-1]
         self.unit = (end - self.start) / (last - self.first)
         for place, number in marks:
-            if self.at(place) != number:
-                raise Unreadable(f"the mark {number} stands at {self.at(place)}")
+            require(self.at(place) == number, f"the mark {number} stands at {self.at(place)}")
 
     def at(self, place):
         number = self.first + (place - self.start) / self.unit
-        if abs(number - round(number)) > 0.05:
-            raise Unreadable(f"{number} is drawn where a whole number is to stand")
+        require(abs(number - round(number)) < 0.05, f"{number} is drawn where a whole number is to stand")
         return round(number)
 
 
@@ -51,36 +60,56 @@ class Picture:
             self.root = ElementTree.fromstring(svg)
         except ElementTree.ParseError as error:
             raise Unreadable(f"this is no XML: {error}") from error
-        self.slot_axis = Axis([(line["x1"], seconds(label) // 10) for line, label in self.marks("times")])
-        self.value_axis = Axis([(line["y1"], typed(label)) for line, label in self.marks("values")])
-        for line, label in self.marks("slots"):
-            if self.slot_axis.at(line["x1"]) != int(label):
-                raise Unreadable(f"the mark of slot {label} does not stand below its time")
+        self.read_axes(self.marks("times"), self.marks("values"))
         self.slots = len(self.shapes("setpoints", "circle"))
+        self.read_slots()
+
+    def read_axes(self, times, values):
+        self.slot_axis = Axis([(line["x1"], seconds(label["text"]) // 10) for line, label in times])
+        self.value_axis = Axis([(line["y1"], typed(label["text"])) for line, label in values])
+        self.left, self.right = values[0][0]["x1"], values[0][0]["x2"]
+        self.top, self.bottom = times[0][0]["y1"], times[0][0]["y2"]
+        for line, label in times:
+            require(label["x"] == line["x1"], f"the time {label['text']} does not stand under its mark")
+        for line, label in values:
+            require(0 < label["y"] - line["y1"] < NEAR, f"the value {label['text']} does not stand beside its mark")
+
+    def read_slots(self):
+        """Below the tree stand the slots that begin at the marked times, each with its number in its middle."""
+        begin = [seconds(label["text"]) // 10 for _, label in self.marks("times")]
+        marked = [(int(label["text"]), self.slot_axis.at(line["x1"]), self.slot_in_middle(label["x"])) for line, label in self.marks("slots")]
+        require(marked == [(slot, slot, slot) for slot in begin if slot < self.slots], "the slots do not stand under their times")
 
     def part(self, name):
         parts = self.root.findall(f"{SVG}g[@id='{name}']")
-        if len(parts) != 1:
-            raise Unreadable(f"there are {len(parts)} parts {name}")
+        require(len(parts) == 1, f"there are {len(parts)} parts {name}")
         return parts[0]
-
-    def texts(self, name):
-        return [text.text for text in self.part(name).iter(f"{SVG}text")]
 
     def shapes(self, name, tag):
         return [measures(shape) for shape in self.part(name).iter(SVG + tag)]
 
     def marks(self, name):
         """The lines of an axis with their labels."""
-        return [(measures(mark.find(f"{SVG}line")), mark.find(f"{SVG}text").text) for mark in self.part(name).findall(f"{SVG}g")]
+        marks = [(mark.find(f"{SVG}line"), mark.find(f"{SVG}text")) for mark in self.part(name).findall(f"{SVG}g")]
+        return [(measures(line), {**measures(label), "text": label.text}) for line, label in marks]
+
+    def words(self):
+        """All texts with letters in them."""
+        return sorted(text.text for text in self.root.iter(f"{SVG}text") if re.search("[a-z]", text.text))
+
+    def legend(self):
+        """The samples with their labels: the tag of each, and the label."""
+        return [(sample.tag.removeprefix(SVG), label.text) for sample, label in self.samples()]
+
+    def samples(self):
+        shapes = list(self.part("legend"))
+        return zip(shapes[0::2], shapes[1::2])
 
     def steps(self, path):
         """For each slot that a line of steps passes its values there."""
-        corners = [tuple(map(float, corner.split())) for corner in re.split("[ML]", path["d"].rstrip("Z"))[1:]]
         values = defaultdict(list)
-        for (x1, y1), (x2, y2) in zip(corners, corners[1:]):
-            if x1 != x2 and y1 != y2:
-                raise Unreadable("a line of steps has a slope")
+        for (x1, y1), (x2, y2) in zip(corners(path), corners(path)[1:]):
+            require(x1 == x2 or y1 == y2, "a line of steps has a slope")
             for slot in range(*sorted(map(self.slot_axis.at, (x1, x2)))):
                 values[slot].append(self.value_axis.at(y1))
         return values
@@ -101,16 +130,24 @@ class Picture:
         return [(slot, value) for slot, values in self.steps(line).items() for value in values]
 
     def rest(self):
-        """The rest value by its line, and as the legend has it."""
+        """The rest value, and the slots from and to which its line goes."""
         [line] = self.shapes("rest", "line")
-        return self.value_axis.at(line["y1"]), typed(self.texts("legend")[-1].removeprefix("rest value "))
+        require(line["y1"] == line["y2"], "the line of the rest value has a slope")
+        return self.value_axis.at(line["y1"]), self.slot_axis.at(line["x1"]), self.slot_axis.at(line["x2"])
 
     def bands(self):
         """For each slot its band's ends, and whether it is drawn as its own."""
-        shades = dict(zip((label for label in self.texts("legend") if label.endswith("band")), (area["fill"] for area in self.shapes("legend", "rect"))))
-        kinds = {fill: label == "own band" for label, fill in shades.items()}
+        kinds = {sample.get("fill"): label.text == "own band" for sample, label in self.samples() if sample.tag == f"{SVG}rect"}
+        require(all(area["fill"] in kinds for area in self.shapes("bands", "path")), "a band is not in the legend")
         return sorted((slot, min(ends), max(ends), kinds[area["fill"]])
                       for area in self.shapes("bands", "path") for slot, ends in self.steps(area).items())
+
+    def own_bands(self):
+        """The slots over the strip of own bands."""
+        return [slot for strip in self.shapes("bands", "rect") for slot in range(*self.slots_of(strip))]
+
+    def slots_of(self, bar):
+        return self.slot_axis.at(bar["x"]), self.slot_axis.at(bar["x"] + bar["width"])
 
     def terms(self):
         """Each term's node, by its place in the tree, with its value and the slots that it feeds."""
@@ -123,28 +160,39 @@ class Picture:
         first, after = self.slots_of(outline)
         width = 2 ** max(levels.values()) // 2 ** level
         node, value = numbers(term.find(f"{SVG}title").text)
-        if (node, after) != ((2 ** level * width + first) / width, min(first + width, self.slots)):
-            raise Unreadable(f"the outline of node {node} is from slot {first} to {after}, in level {level}")
-        self.read_label(term, value, bars)
+        require((node, after) == ((2 ** level * width + first) / width, min(first + width, self.slots)),
+                f"the outline of node {node} is from slot {first} to {after}, in level {level}")
+        self.read_value(term, value, bars)
         return int(node), int(100 * value), [slot for bar in bars for slot in range(*self.slots_of(bar))]
 
-    def read_label(self, term, value, bars):
+    def read_value(self, term, value, bars):
         """A term's value stands in a bar that holds it, if there is one."""
-        labels = [(numbers(label.text), float(label.get("x"))) for label in term.findall(f"{SVG}text")]
-        if not labels and any(bar["width"] > WIDE_BAR for bar in bars):
-            raise Unreadable(f"the value {value} is not written in its bar")
-        for label, middle in labels:
-            if label != [value] or not any(bar["x"] < middle < bar["x"] + bar["width"] for bar in bars):
-                raise Unreadable(f"{label} is written where {value} is to stand")
-
-    def slots_of(self, bar):
-        return self.slot_axis.at(bar["x"]), self.slot_axis.at(bar["x"] + bar["width"])
+        labels = [(label.text, measures(label)) for label in term.findall(f"{SVG}text")]
+        require(labels or all(bar["width"] < WIDE_BAR for bar in bars), f"the value {value} is not written in its bar")
+        for text, label in labels:
+            is_held = any(bar["x"] < label["x"] < bar["x"] + bar["width"] and NEAR < label["y"] - bar["y"] < bar["height"] for bar in bars)
+            require(numbers(text) == [value] and is_held, f"{text} is written where {value} is to stand")
 
     def greatest_error(self):
-        """What is said of the greatest error, and the slot, setpoint and restored setpoint that are marked."""
+        """The slot, the setpoint and the restored setpoint that are marked."""
         [ring] = self.shapes("greatest-error", "circle")
-        _, joint = self.shapes("greatest-error", "line")
-        if (ring["cx"], ring["cy"]) != (joint["x1"], joint["y1"]) or joint["x1"] != joint["x2"]:
-            raise Unreadable("the mark of the greatest error is not around its setpoint")
-        [label] = self.texts("greatest-error")
-        return label, self.slot_in_middle(ring["cx"]), self.value_axis.at(joint["y1"]), self.value_axis.at(joint["y2"])
+        leader, joint = self.shapes("greatest-error", "line")
+        require({ring["cx"]} == {line[end] for line in (leader, joint) for end in ("x1", "x2")} and ring["cy"] == joint["y1"],
+                "the mark of the greatest error is not around its setpoint")
+        return self.slot_in_middle(ring["cx"]), self.value_axis.at(joint["y1"]), self.value_axis.at(joint["y2"])
+
+    def everything(self):
+        terms = self.terms()
+        return {
+            "words": self.words(),
+            "legend": self.legend(),
+            "rest value, and where its line begins and ends": self.rest(),
+            "setpoints": self.setpoints(),
+            "words at setpoints": self.words_at_setpoints(),
+            "bands": self.bands(),
+            "own bands": self.own_bands(),
+            "restored": self.restored(),
+            "terms": [(node, value) for node, value, _ in terms],
+            "slots fed by terms": sorted((slot, value) for _, value, slots in terms for slot in slots),
+            "greatest error": self.greatest_error(),
+        }
