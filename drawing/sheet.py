@@ -23,8 +23,13 @@ class Sheet:
         if self.low == self.high:
             self.low, self.high = self.low - 1, self.high + 1
         self.tree_bottom = self.tree_top + self.level_height * levels
-        self.svg = ElementTree.Element("svg", {"xmlns": "http://www.w3.org/2000/svg", "viewBox": f"0 0 {self.width} {self.tree_bottom + 62}",
-                                               "preserveAspectRatio": "xMidYMin", "font-family": "sans-serif", "font-size": str(FONT)})
+        self.svg = ElementTree.Element("svg", {
+            "xmlns": "http://www.w3.org/2000/svg",
+            "viewBox": f"0 0 {self.width} {self.tree_bottom + 62}",
+            "preserveAspectRatio": "xMidYMin",
+            "font-family": "sans-serif",
+            "font-size": str(FONT),
+        })
         draw(self.svg, "rect", width="100%", height="100%", fill="#ffffff")
 
     def x(self, slot):

@@ -77,8 +77,12 @@ class Picture:
     def read_slots(self):
         """Below the tree stand the slots that begin at the marked times, each with its number in its middle."""
         begin = [seconds(label["text"]) // 10 for _, label in self.marks("times")]
-        marked = [(int(label["text"]), self.slot_axis.at(line["x1"]), self.slot_in_middle(label["x"])) for line, label in self.marks("slots")]
-        require(marked == [(slot, slot, slot) for slot in begin if slot < self.slots], "the slots do not stand under their times")
+        marks = self.marks("slots")
+        numbered = [int(label["text"]) for _, label in marks]
+        require(numbered == [slot for slot in begin if slot < self.slots], f"the slots {numbered} are marked, and the times of {begin}")
+        for line, label in marks:
+            slot = int(label["text"])
+            require(self.slot_axis.at(line["x1"]) == slot == self.slot_in_middle(label["x"]), f"slot {slot} does not stand under its time")
 
     def part(self, name):
         parts = self.root.findall(f"{SVG}g[@id='{name}']")
