@@ -156,7 +156,7 @@ def draw_rest_line(part, x1, x2, y):
 
 def draw_setpoints(sheet, profile, restored):
     part = sheet.part("setpoints")
-    radius = min(4, max(1.1, 0.4 * sheet.slot_width()))
+    radius = min(4, max(1.1, 0.3 * sheet.slot_width()))
     for slot, (setpoint, line) in enumerate(zip(profile.setpoints, profile.lines)):
         dot = draw(part, "circle", cx=sheet.x(slot + 0.5), cy=sheet.y(setpoint), r=radius)
         draw(dot, "title", f"slot {slot} at {clock(slot)}: {line}, restored {written(restored[slot])}")
