@@ -56,10 +56,11 @@ class Expected:
                 for slot, (setpoint, band) in enumerate(zip(self.setpoints, self.bands))]
 
     def fed_by_terms(self):
-        """The slots that have a term on the path to the root, with their restored setpoints; the others have the rest value."""
+        """Each slot with a term on the path to the root, the lowest such node and the restored setpoint; the others have the rest value."""
         leaves = next(2 ** height for height in range(10) if len(self.lines) <= 2 ** height)
         nodes = {node for node, _ in self.terms}
-        return [(slot, typed(value)) for slot, value in enumerate(self.restored) if any(leaves + slot >> up in nodes for up in range(10))]
+        above = [[leaves + slot >> up for up in range(10) if leaves + slot >> up in nodes] for slot in range(len(self.lines))]
+        return [(slot, above[slot][0], typed(value)) for slot, value in enumerate(self.restored) if above[slot]]
 
     def everything(self):
         return {

@@ -197,6 +197,6 @@ class Picture:
             "own bands": self.own_bands(),
             "restored": self.restored(),
             "terms": [(node, value) for node, value, _ in terms],
-            "slots fed by terms": sorted((slot, value) for _, value, slots in terms for slot in slots),
+            "slots fed by terms": sorted((slot, node, value) for node, value, slots in terms for slot in slots),
             "greatest error": self.greatest_error(),
         }

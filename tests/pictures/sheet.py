@@ -44,14 +44,18 @@ def wrong_words(picture, width, height):
 
 
 def wrong_places(picture, width, height):
-    """What is off the sheet, and corners of curves and bands beyond the axes."""
+    """What is off the sheet, corners of curves and bands beyond the axes, and a strip of own bands that lies on these."""
     for shape in map(measures, picture.root.iter()):
         for names, most in [(("x", "x1", "x2", "cx"), width), (("y", "y1", "y2", "cy"), height)]:
             if not all(0 <= shape.get(name, 0) <= most for name in names):
                 yield f"{shape} is off the sheet"
-    for x, y in itertools.chain(*(corners(path) for name in ("bands", "restored") for path in picture.shapes(name, "path"))):
+    curves = [corner for name in ("bands", "restored") for path in picture.shapes(name, "path") for corner in corners(path)]
+    for x, y in curves:
         if not (picture.left <= x <= picture.right and picture.top <= y <= picture.bottom):
             yield f"a corner at {x} {y} is beyond the axes"
+    for strip in picture.shapes("bands", "rect"):
+        if not max(y for _, y in curves) <= strip["y"] < strip["y"] + strip["height"] <= picture.bottom:
+            yield f"the strip {strip} does not lie under the curves"
 
 
 def wrong_order(picture):
