@@ -46,7 +46,7 @@ not_below (negsuc n) e = subst T e tt
 
 -- an element of a slice of 16-bit numbers, as it is read: `c.x.given` of a copy `let x = s[i]`
 pub element : (z : ℤ) → mag z < 2 ^ 15 → to_z w16 (of_z w16 z) ≡ z
-element z h = to_z-of_z (record { sfits = h })
+element z h = to_z-of_z {w = w16} (record { sfits = h })
 
 -- it fits 32 bits, and read there it is the element
 pub wider_fits : (z : ℤ) → mag z < 2 ^ 15 → SFits w32 (to_z w16 (of_z w16 z))

@@ -14,6 +14,7 @@ neither_holds false other held = (refl, held)
 
 pub either_first : (one other : Bool) → T one → T (one || other)
 either_first true other passes = tt
+either_first false other passes = elim passes [ ]
 
 pub either_second : (one other : Bool) → T other → T (one || other)
 either_second true other passes = tt

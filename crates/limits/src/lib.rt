@@ -1,4 +1,6 @@
 // What every call shares: the limits that document 01 sets, as tests, the smaller and the larger of two numbers, and laying numbers over the front of a slice.
+#![tactic(auto)]
+
 ghost use Rattle.std.specs.Prelude.{◌≡◌, ◌≤◌, min, max, nat_abs, length};
 ghost use Rattle.limits.specs.Limits.{beyond, outside_band, outside_slots, any_beyond};
 ghost use Rattle.limits.specs.Answers.{laid};
