@@ -15,6 +15,7 @@ use Rattle.fewest.proofs.Best.{pays_cheapest}
 -- a test that passes is not missed
 pub passed_not_missed : (test : Bool) → T test → missed test ≡ 0
 passed_not_missed true passes = refl
+passed_not_missed false passes = elim passes [ ]
 
 -- and one that is not missed passes
 pub not_missed_passes : (test : Bool) → missed test ≤ 0 → T test

@@ -17,6 +17,8 @@ use Rattle.fewest.proofs.Rows.{row_needs}
 -- where two tests pass, neither is missed
 both_passed : (a b : Bool) → T (a && b) → missed a + missed b ≡ 0
 both_passed true true passes = refl
+both_passed false b passes = elim passes [ ]
+both_passed true false passes = elim passes [ ]
 
 -- where one of two tests is missed, both together are
 both_missed_at_most : (a b : Bool) → missed (a && b) ≤ missed a + missed b
@@ -33,6 +35,7 @@ one_missed false false apart = refl
 -- where the first of two tests passes, one of them does
 either_passes : (a b : Bool) → T a → T (a || b)
 either_passes true b passes = tt
+either_passes false b passes = elim passes [ ]
 
 module _ (accepts : ℕ → ℕ → Bool) (top height i : ℕ) {s t : ℕ} {left right : ℕ → Bool}
     (left-row : Row top (cost binary accepts top height (2 * i)) s left) (right-row : Row top (cost binary accepts top height (2 * i + 1)) t right) where

@@ -16,6 +16,7 @@ use Rattle.fewest.proofs.LowerBound.{passed_not_missed, not_missed_passes}
 -- a test that fails is missed
 failed_missed : (test : Bool) → T (not test) → missed test ≡ 1
 failed_missed false fails = refl
+failed_missed true fails = elim fails [ ]
 
 module _ {top : ℕ} {cost_of : ℕ → ℕ} {s : ℕ} {set : ℕ → Bool} (row : Row top cost_of s set) where
   -- a row may name its set otherwise
