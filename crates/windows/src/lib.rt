@@ -1,6 +1,8 @@
 // Sets of values in scratch, as sorted windows: whether a value is in a set, and what is in both or in either of two sets.
 // A stretch of scratch holds two numbers and then its windows; each window is its low end and its high end.
 // Places, counts and values have 32 bits, since the panel's core takes two instructions or more for each sum and comparison in 64.
+#![tactic(auto)]
+
 ghost use Rattle.std.specs.Prelude.{◌≡◌, ◌++◌, ◌+◌, ◌*◌, ◌≤◌, ◌<◌, ltb, length, set};
 ghost use Rattle.windows.specs.Windows.{covers, between, meet};
 ghost use Rattle.windows.specs.Scratch.{signed, at, windows_at, Listed, Placed, Joinable, Room, Copyable, Written, Joined};
