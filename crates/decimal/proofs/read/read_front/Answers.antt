@@ -1,5 +1,5 @@
 -- `decimal::read::read_front` meets its contract: a minus turns the sign of what follows it, and takes a byte.
-use Rattle.std.proofs.Common.{◌≡◌, ℕ, zero, suc, ◌+◌, ◌^◌, ◌<◌, ◌≤◌, true, false, eqb, List, [], ◌∷◌, length, get_or, take, drop, pos, sym, refl, ap, ◌∙◌, add-one, arith, to_z-of_z, w32, rules}
+use Rattle.std.proofs.Common.{◌≡◌, ℕ, zero, suc, ◌+◌, ◌^◌, ◌<◌, ◌≤◌, true, false, eqb, List, [], ◌∷◌, length, get_or, take, drop, pos, sym, refl, ap, ◌∙◌, add-one, arith, to_z-of_z, w32}
 use mathlib.Core.Option.{none}
 use mir.Val.{hbits}
 use mir.ValLaws.{to_z_pos}
@@ -8,8 +8,7 @@ use Rattle.limits.proofs.Signed.{negative_is, negative_fits}
 use Rattle.decimal.specs.Number.{leading_digits, unsigned, signed, negated, reads_as}
 use Rattle.decimal.specs.Inner.{in_number, FrontRead}
 use Rattle.decimal.proofs.Fronts.{minus_in, not_both}
-use Rattle.decimal.proofs.read.read_front.Statement.{statement}
-use Rattle.decimal.proofs.read.read_front.Tie as tie
+use Rattle.decimal.proofs.read.read_front.Goals as goal
 
 -- 31 bits have room for a number that is read
 has_room : {number : ℕ} → number ≤ 100000 → number < 2 ^ hbits w32
@@ -51,65 +50,24 @@ no_minus bytes number count not-minus front = record {
   no_other = λ place inside stops other. plain_means bytes place not-minus ∙ ap (signed pos) (front.no_other place inside stops other);
 }
 
-begins-with-requires : tie.Need-begins-with-requires
-begins-with-requires c κs = search rules
+pub slice_bounds-read_unsigned-count : goal.slice_bounds-read_unsigned-count
+slice_bounds-read_unsigned-count c = minus_inside c.args.bytes.now (sym c.begins_with.ensures ∙ c.if-begins_with.true)
 
-sub-read-unsigned : tie.Need-overflow-sub-read-unsigned
-sub-read-unsigned c = minus_inside c.before.before.before.args.bytes.now (sym c.before.begins-with.ensures ∙ c.if1.true)
+pub overflow_sub-result : goal.overflow_sub-result
+overflow_sub-result c = negative_fits w32 c.read_unsigned-part.result.number (has_room c.read_unsigned-part.ensures.at_most)
 
-part-read-unsigned-start : tie.Need-slice-bounds-read-unsigned-start
-part-read-unsigned-start c = omega (arith, minus_inside c.before.before.before.args.bytes.now (sym c.before.begins-with.ensures ∙ c.if1.true))
-
-part-read-unsigned-end : tie.Need-slice-bounds-read-unsigned-end
-part-read-unsigned-end c = search rules
-
-read-unsigned-requires : tie.Need-read-unsigned-requires
-read-unsigned-requires c κs = search rules
-
-cast-t9 : tie.Need-overflow-cast-t9
-cast-t9 c = search rules
-
-sub-t10 : tie.Need-overflow-sub-t10
-sub-t10 c = negative_fits w32 c.before.read-unsigned.result.number (has_room c.before.read-unsigned.ensures.at_most)
-
-add-t6 : tie.Need-overflow-add-t6
-add-t6 c = search rules
-
-returns : tie.Need-returns
-returns c =
-    let bytes = c.before.before.before.before.before.before.before.args.bytes.now in
-    let part = c.before.before.read-unsigned in
+pub returns-then-begins_with : goal.returns-then-begins_with
+returns-then-begins_with c =
+    let bytes = c.args.bytes.now in
+    let part = c.read_unsigned-part in
     let number = part.result.number in
     let read = rw (to_end 1 bytes) at part.ensures in
     let room = has_room read.at_most in
     rw (to_z-of_z (negative_fits w32 number room), negative_is w32 number room)
-    (after_minus bytes number _ (sym c.before.before.before.before.before.begins-with.ensures ∙ c.before.before.before.before.if1.true) read.front)
+    (after_minus bytes number _ (sym c.begins_with.ensures ∙ c.if-begins_with.true) read.front)
 
-read-unsigned-requires-2 : tie.Need-read-unsigned-requires-2
-read-unsigned-requires-2 c κs = search rules
-
-cast-t11 : tie.Need-overflow-cast-t11
-cast-t11 c = search rules
-
-returns-2 : tie.Need-returns-2
-returns-2 c =
-    let part = c.before.read-unsigned2 in
+pub returns : goal.returns
+returns c =
+    let part = c.read_unsigned-part-2 in
     rw (to_z_pos w32 part.result.number (has_room part.ensures.at_most))
-    (no_minus c.before.before.before.before.before.args.bytes.now _ _ (sym c.before.before.before.begins-with.ensures ∙ c.before.before.if1.false) part.ensures.front)
-
-pub read_front_spec : {M : Type 1} → statement M
-read_front_spec =
-    tie.close
-    (tie.spec
-    begins-with-requires
-    sub-read-unsigned
-    part-read-unsigned-start
-    part-read-unsigned-end
-    read-unsigned-requires
-    cast-t9
-    sub-t10
-    add-t6
-    returns
-    read-unsigned-requires-2
-    cast-t11
-    returns-2)
+    (no_minus c.args.bytes.now _ _ (sym c.begins_with.ensures ∙ c.if-begins_with.false) part.ensures.front)

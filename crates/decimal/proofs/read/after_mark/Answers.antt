@@ -1,12 +1,11 @@
 -- `decimal::read::after_mark` meets its contract: no digit follows the mark, one, two, or three where it allows them.
-use Rattle.std.proofs.Common.{◌≡◌, ℕ, ◌+◌, ◌*◌, ◌<◌, ◌≤◌, Bool, true, false, cond, eqb, List, length, get_or, refl, arith, rules}
+use Rattle.std.proofs.Common.{◌≡◌, ℕ, ◌+◌, ◌*◌, ◌<◌, ◌≤◌, Bool, true, false, cond, eqb, List, length, get_or, refl, arith}
 use mathlib.Core.Bool.{and-false}
 use Rattle.decimal.specs.Number.{rounded}
 use Rattle.decimal.specs.Inner.{with_units, Marked, PartRead, DigitsRead}
 use Rattle.decimal.proofs.Fractions.{has_third, mark_alone, one_digit, two_digits, three_digits}
 use Rattle.decimal.proofs.WithUnits.{with_fraction, without}
-use Rattle.decimal.proofs.read.after_mark.Statement.{statement}
-use Rattle.decimal.proofs.read.after_mark.Tie as tie
+use Rattle.decimal.proofs.read.after_mark.Goals as goal
 
 -- a mark that allows three digits is a comma
 no_comma : (comma : Bool) (most : ℕ) → most ≡ cond comma 3 2 → most < 3 → comma ≡ false
@@ -55,72 +54,22 @@ module _ {units : ℕ} {bytes : List ℕ} {most tenths hundredths thousandths : 
           with_fraction units few bytes _ 4 number (three_digits bytes comma first.0 second.0 third.0) (omega (arith, first.1, second.1, third.1))
           (omega (arith, is, first.1, second.1, third.1))
 
-digits-after-requires : tie.Need-digits-after-requires
-digits-after-requires c κs = search rules
+pub returns-then-digits-ge10 : goal.returns-then-digits-ge10
+returns-then-digits-ge10 c =
+    nothing c.requires c.digits_after-digits.ensures _ _ c.if-digits-ge10.true c.no_number.ensures.0 c.no_number.ensures.1
 
-no-number-requires : tie.Need-no-number-requires
-no-number-requires c κs = search rules
+pub returns-then-digits-ge10-2 : goal.returns-then-digits-ge10-2
+returns-then-digits-ge10-2 c =
+    tenths_only c.requires c.digits_after-digits.ensures c.if-digits-ge10.false c.if-digits-ge10-2.true
 
-returns : tie.Need-returns
+pub returns-then-most-lt3 : goal.returns-then-most-lt3
+returns-then-most-lt3 c =
+    no_third_allowed c.requires c.digits_after-digits.ensures c.if-digits-ge10.false c.if-digits-ge10-2.false c.if-most-lt3.true
+
+pub returns-then-digits-ge10-3 : goal.returns-then-digits-ge10-3
+returns-then-digits-ge10-3 c =
+    no_third_there c.requires c.digits_after-digits.ensures c.if-digits-ge10.false c.if-digits-ge10-2.false c.if-digits-ge10-3.true
+
+pub returns : goal.returns
 returns c =
-    nothing c.before.before.before.before.before.requires c.before.before.before.digits-after.ensures _ _ c.before.if1.true c.no_number.ensures.0 c.no_number.ensures.1
-
-mul-t7 : tie.Need-overflow-mul-t7
-mul-t7 c = search rules
-
-mul-t8 : tie.Need-overflow-mul-t8
-mul-t8 c = search rules
-
-add-t9 : tie.Need-overflow-add-t9
-add-t9 c = search rules
-
-returns-2 : tie.Need-returns-2
-returns-2 c =
-    tenths_only c.before.before.before.before.before.before.before.requires c.before.before.before.before.before.digits-after.ensures c.before.before.before.if1.false c.before.if2.true
-
-mul-t10 : tie.Need-overflow-mul-t10
-mul-t10 c = search rules
-
-mul-t11 : tie.Need-overflow-mul-t11
-mul-t11 c = search rules
-
-add-t12 : tie.Need-overflow-add-t12
-add-t12 c = search rules
-
-add-t13 : tie.Need-overflow-add-t13
-add-t13 c = search rules
-
-returns-3 : tie.Need-returns-3
-returns-3 c =
-    no_third_allowed c.before.before.before.before.before.before.before.before.before.requires c.before.before.before.before.before.before.before.digits-after.ensures c.before.before.before.before.before.if1.false c.before.before.before.if2.false c.if3.true
-
-returns-4 : tie.Need-returns-4
-returns-4 c =
-    no_third_there c.before.before.before.before.before.before.before.before.before.before.before.requires c.before.before.before.before.before.before.before.before.before.digits-after.ensures c.before.before.before.before.before.before.before.if1.false c.before.before.before.before.before.if2.false c.if4.true
-
-rounded-by-requires : tie.Need-rounded-by-requires
-rounded-by-requires c κs = search rules
-
-returns-5 : tie.Need-returns-5
-returns-5 c =
-    three c.before.before.before.before.before.before.before.before.before.before.before.before.requires c.before.before.before.before.before.before.before.before.before.before.digits-after.ensures c.before.before.before.before.before.before.before.before.if1.false c.before.before.before.before.before.before.if2.false _ c.before.before.before.if3.false c.before.if4.false c.rounded-by.ensures
-
-pub after_mark_spec : {M : Type 1} → statement M
-after_mark_spec =
-    tie.close
-    (tie.spec
-    digits-after-requires
-    no-number-requires
-    returns
-    mul-t7
-    mul-t8
-    add-t9
-    returns-2
-    mul-t10
-    mul-t11
-    add-t12
-    add-t13
-    returns-3
-    returns-4
-    rounded-by-requires
-    returns-5)
+    three c.requires c.digits_after-digits.ensures c.if-digits-ge10.false c.if-digits-ge10-2.false _ c.if-most-lt3.false c.if-digits-ge10-3.false c.rounded_by.ensures

@@ -6,8 +6,8 @@ use lib.Seq.{take-length}
 use Rattle.decimal.specs.Number.{reads_as}
 use Rattle.decimal.specs.Answers.{NumberRead}
 use Rattle.decimal.specs.Inner.{in_number, FrontRead}
-use Rattle.decimal.proofs.read.read_number.Statement.{statement}
-use Rattle.decimal.proofs.read.read_number.Tie as tie
+use borrow.Author.Rules.{rules}
+use Rattle.decimal.proofs.read.read_number.Goals as goal
 
 module _ (field : List ℕ) (number : ℤ) (count : ℕ) (front : FrontRead reads_as field number count) where
   all_of_it : count ≡ length field → NumberRead field 0 number
@@ -21,17 +21,11 @@ module _ (field : List ℕ) (number : ℤ) (count : ℕ) (front : FrontRead read
       let is : reads_as field ≡ none = rw (take-length field) at (front.no_other (length field) (omega arith) stops (λ same. elsewhere (sym same))) in
       record { refusal_is = rw is; number_is = rw is }
 
-read-front-requires : tie.Need-read-front-requires
-read-front-requires c κs = search rules
-
-returns : tie.Need-returns
-returns c =
-    let read = c.before.before.before.read-front in
+pub returns-then-front-field : goal.returns-then-front-field
+returns-then-front-field c =
+    let read = c.read_front-front in
     let fits : SFits w32 read.result.number = search rules in
-    rw (to_z-of_z fits) (all_of_it c.before.before.before.before.before.args.field.now _ _ read.ensures c.before.if1.true)
+    rw (to_z-of_z fits) (all_of_it c.args.field.now _ _ read.ensures c.if-front-field.true)
 
-returns-2 : tie.Need-returns-2
-returns-2 c = not_all c.before.before.before.before.args.field.now _ _ c.before.before.read-front.ensures c.if1.false
-
-pub read_number_spec : {M : Type 1} → statement M
-read_number_spec = tie.close (tie.spec read-front-requires returns returns-2)
+pub returns : goal.returns
+returns c = not_all c.args.field.now _ _ c.read_front-front.ensures c.if-front-field.false
