@@ -1,4 +1,6 @@
 // Bit fields of up to 16 bits, most significant bit first, read and written by bytes.
+#![tactic(auto)]
+
 ghost use Rattle.std.specs.Prelude.{◌≡◌, ◌+◌, ◌≤◌, ◌<◌, ◌^◌, get_or, set};
 ghost use Rattle.std.proofs.lemmas.List.Edits.{sets};
 ghost use Rattle.bits.specs.Bits.{bits, bits_of, field_at, replaced_at};
