@@ -1,5 +1,7 @@
 // The band that each slot of a profile goes by: the common one, or its own where the slot is special.
 // Special slots come as two slices of equal length, `specials` with their slots and `own` with their bands; the bands of all slots as one, `bands`.
+#![tactic(auto)]
+
 ghost use Rattle.std.specs.Prelude.{◌≡◌, not, [], ◌≤◌, length};
 ghost use Rattle.bands.specs.Bands.{special_slots, right_specials, slot_bands, specials_among, same_bands};
 ghost use Rattle.bands.specs.Inner.{right_here, Right, RightForSome, Put, Room, Gathered, Least};
