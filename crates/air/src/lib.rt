@@ -1,4 +1,6 @@
 // Primary air: the flow that each step of differential pressure gives, by the factory's table, and the lowest step whose flow reaches a given one.
+#![tactic(auto)]
+
 pub mod factory;
 
 ghost use Rattle.std.specs.Prelude.{◌≡◌};
