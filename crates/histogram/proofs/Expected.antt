@@ -27,12 +27,12 @@ module _ (otherwise : ℤ) (first : Term) (others : List Term) where
   found_later node above = rw (ne_eqb first.node node (λ same. omega arith))
 
 -- a term of a valid list lies above the list's bound
-member_above : {last end : ℕ} {term : Term} {terms : List Term} → ValidFrom last end terms → Memᴰ term terms → last < term.node
+member_above : {term : Term} {last end : ℕ} {terms : List Term} → ValidFrom last end terms → Memᴰ term terms → last < term.node
 member_above valid (Memᴰ.head is-first) = omega (arith, first_above valid, ap (λ (t : Term). t.node) is-first)
 member_above valid (Memᴰ.tail among-others) = omega (arith, first_above valid, member_above (rest_valid valid) among-others)
 
 -- and a look-up of its node finds it
-member_found : {last end : ℕ} {term : Term} {terms : List Term} (otherwise : ℤ) → ValidFrom last end terms → Memᴰ term terms
+member_found : {term : Term} {last end : ℕ} {terms : List Term} (otherwise : ℤ) → ValidFrom last end terms → Memᴰ term terms
     → term_or otherwise terms term.node ≡ term.value
 member_found otherwise valid (Memᴰ.head is-first) = rw is-first (found_first otherwise _ _)
 member_found otherwise valid (Memᴰ.tail among-others) =

@@ -1,5 +1,7 @@
 // The compact hierarchical histogram: the level of a node, valid lists of terms, and the setpoints that a list of terms restores.
 // Terms come as two slices of equal length, their nodes and their values.
+#![tactic(auto)]
+
 pub mod level;
 pub mod restore;
 pub mod terms;
