@@ -1,4 +1,6 @@
 // The verdict on a synopsis: whether it keeps its bands for a profile, its greatest error and its least margin, or the lowest slot whose error exceeds its band.
+#![tactic(auto)]
+
 ghost use Rattle.histogram.specs.Terms.{paired};
 ghost use Rattle.verdict.specs.Verdict.{Judged};
 ghost use Rattle.verdict.specs.Inner.{Judgeable, Comparable, Compared, InSlot, ErrorIs};
