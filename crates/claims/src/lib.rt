@@ -1,1 +1,2 @@
 // What building and the least band promise, as definitions: see specs/. No code.
+#![tactic(auto)]
