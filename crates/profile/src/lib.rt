@@ -1,4 +1,6 @@
 // Profile text: the rest value, the common band, then a line a slot: its setpoint, and its own band where it has one.
+#![tactic(auto)]
+
 mod line;
 
 ghost use Rattle.std.specs.Prelude.{◌≡◌, ◌≤◌, length};

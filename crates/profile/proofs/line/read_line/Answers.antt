@@ -15,8 +15,7 @@ use Rattle.decimal.specs.Inner.{FrontRead}
 use Rattle.profile.specs.Text.{before, line_number, read_refusal, line_refusal}
 use Rattle.profile.specs.Inner.{no_check, LineRead}
 use Rattle.profile.proofs.Fields.{in_text, number_at_end, next_line, no_number}
-use Rattle.profile.proofs.line.read_line.Statement.{statement}
-use Rattle.profile.proofs.line.read_line.Tie as tie
+use Rattle.profile.proofs.line.read_line.Goals as goal
 
 no_line : (text : List ℕ) (at : ℕ) → length text ≤ at → LineRead no_check text at 4 (pos 0) 0
 unfolding before
@@ -60,57 +59,16 @@ module _ (text : List ℕ) (at : ℕ) (more : at < length text) (number : ℤ) (
         moves_on = λ right. absurd (omega arith);
       }
 
-returns : tie.Need-returns
-returns c = no_line c.before.before.args.text.now c.before.before.args.at c.if1.true
+pub returns-then-text-at : goal.returns-then-text-at
+returns-then-text-at c = no_line c.args.text.now c.args.at c.if-text-at.true
 
-sub-read-front : tie.Need-overflow-sub-read-front
-sub-read-front c = search rules
+pub returns-then-byte_at-eq-LINE_END : goal.returns-then-byte_at-eq-LINE_END
+returns-then-byte_at-eq-LINE_END c =
+    let front : FrontRead reads_as (drop c.args.at c.args.text.now) c.read_front-front.result.number c.read_front-front.result.count = rw (to_end c.args.at c.args.text.now) at c.read_front-front.ensures in
+    let fits : SFits w32 c.read_front-front.result.number = search rules in
+    rw (to_z-of_z fits) (ended_line c.args.text.now c.args.at c.if-text-at.false _ _ front (sym c.byte_at.ensures ∙ c.if-byte_at-eq-LINE_END.true))
 
-part-read-front-start : tie.Need-slice-bounds-read-front-start
-part-read-front-start c = search rules
-
-part-read-front-end : tie.Need-slice-bounds-read-front-end
-part-read-front-end c = search rules
-
-read-front-requires : tie.Need-read-front-requires
-read-front-requires c κs = search rules
-
--- the number at the front of the text from the line on
-front_of : (c : tie.After-read-front) → FrontRead reads_as (drop c.before.before.before.before.args.at c.before.before.before.before.args.text.now) c.read-front.result.number c.read-front.result.count
-front_of c = rw (to_end c.before.before.before.before.args.at c.before.before.before.before.args.text.now) at c.read-front.ensures
-
-add-end : tie.Need-overflow-add-end
-add-end c = search rules
-
-byte-at-requires : tie.Need-byte-at-requires
-byte-at-requires c κs = search rules
-
-add-t11 : tie.Need-overflow-add-t11
-add-t11 c = search rules
-
-returns-2 : tie.Need-returns-2
-returns-2 c =
-    let a = c.before.before.before.before.before.before.before.before.args in
-    let read = c.before.before.before.before in
-    let fits : SFits w32 read.read-front.result.number = search rules in
-    rw (to_z-of_z fits) (ended_line a.text.now a.at c.before.before.before.before.before.before.if1.false _ _ (front_of read) (sym c.before.before.byte_at.ensures ∙ c.before.if2.true))
-
-returns-3 : tie.Need-returns-3
-returns-3 c =
-    let a = c.before.before.before.before.before.before.before.args in
-    wrong_line a.text.now a.at c.before.before.before.before.before.if1.false _ _ (front_of c.before.before.before) (λ is-end. c.if2.false (c.before.byte_at.ensures ∙ is-end))
-
-pub read_line_spec : {M : Type 1} → statement M
-read_line_spec =
-    tie.close
-    (tie.spec
-    returns
-    sub-read-front
-    part-read-front-start
-    part-read-front-end
-    read-front-requires
-    add-end
-    byte-at-requires
-    add-t11
-    returns-2
-    returns-3)
+pub returns : goal.returns
+returns c =
+    let front : FrontRead reads_as (drop c.args.at c.args.text.now) c.read_front-front.result.number c.read_front-front.result.count = rw (to_end c.args.at c.args.text.now) at c.read_front-front.ensures in
+    wrong_line c.args.text.now c.args.at c.if-text-at.false _ _ front (λ is-end. c.if-byte_at-eq-LINE_END.false (c.byte_at.ensures ∙ is-end))
