@@ -61,7 +61,8 @@ unfolding answer
 answer_sorted usable zero = usable.each 0
 answer_sorted {leaves} usable (suc height) =
     combined_sorted (answer height (take (2 ^ height) leaves)) (answer height (drop (2 ^ height) leaves))
-    (answer_sorted (usable_take usable (2 ^ height)) height) (answer_sorted (usable_drop usable (2 ^ height)) height)
+    (answer_sorted {leaves = take (2 ^ height) leaves} (usable_take usable (2 ^ height)) height)
+    (answer_sorted {leaves = drop (2 ^ height) leaves} (usable_drop usable (2 ^ height)) height)
 
 -- ---- how many windows, and the number
 

@@ -2,6 +2,8 @@
 // A node's answer rests on the answers of its two children; parts of setpoints, bands and scratch are handed to each half of the tree.
 // Filler slots have no setpoint: a part of the setpoints may be short, or empty.
 // Places, numbers and values have 32 bits, as in the crate windows; a part of a slice begins and ends at a usize.
+#![tactic(auto)]
+
 mod leaves;
 mod node;
 

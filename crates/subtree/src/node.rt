@@ -49,7 +49,7 @@ fn write_header(scratch: &mut [i16], number: u32, count: u32)
 }
 
 // The ends of a window, both in it.
-#[derive(Drop)]
+#[derive(Clone, Copy)]
 pub struct Ends {
     pub low: u32,
     pub high: u32,
