@@ -8,7 +8,7 @@ ghost use Rattle.bits.specs.Signed.{complement, signed_of};
 ghost use Rattle.bits.specs.Inner.{Within, Fitting, FittingSigned, SignedBits, FieldInWord, word_at, word_bytes, with_field};
 
 // A place in a record: a bit number, counted from the first byte's top bit.
-#[derive(Drop)]
+#[derive(Clone, Copy)]
 pub struct BitPlace {
     pub at: usize,
 }

@@ -1,4 +1,6 @@
 // The record's layout: how long it is and where its fields stand. Its definition is in specs/Record.antt.
+#![tactic(auto)]
+
 ghost use Rattle.std.specs.Prelude.{◌≡◌, ◌+◌, ◌≤◌};
 ghost use Rattle.record.specs.Record.{version_for, special_count_width, terms_end, fields_end, bytes_for};
 ghost use Rattle.record.specs.Inner.{PlacesAre, Counted};
