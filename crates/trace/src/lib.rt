@@ -1,5 +1,7 @@
 // Tracing: the walk that reads the solved scratch from the root down and writes the terms of the first of the smallest synopses.
 // A node hands on to its children the value that comes in where that is in the node's set, else the lowest value of the set, and then it has a term.
+#![tactic(auto)]
+
 ghost use Rattle.std.specs.Prelude.{◌≡◌, [], ◌≤◌};
 ghost use Rattle.claims.specs.Inner.{with_term};
 ghost use Rattle.trace.specs.Trace.{change, handed_on, set_at, Answered, TermFits, Handing, HandedToChildren, LevelFits, LevelsFit, Appended, LevelTraced, UpperTraced, LevelsTraced};
