@@ -1,4 +1,6 @@
 // Reading a record: its header, then its terms and the bands of its slots into room for all that a record can have.
+#![tactic(auto)]
+
 ghost use Rattle.std.specs.Prelude.{◌≡◌, ◌≤◌, length};
 ghost use Rattle.record_read.specs.Reading.{RecordRead};
 ghost use Rattle.record_read.specs.Inner.{Room, RoomRead, HeaderRead, no_frame, FrameRead, SecondOpen, FrameOpen, Framed, fill_after, FieldsRead, no_header, TermsFit, TermsLaid, BandsFit, BandsRead, specials_at, WalkFits, WalkRead};
