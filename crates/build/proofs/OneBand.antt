@@ -5,7 +5,7 @@ use Prim.Native.Nat.{ℕ, ◌-◌, ◌≤◌, ◌<◌}
 use native.Mathlib.Omega.{arith}
 use lib.IntN.{ℤ}
 use lib.ListN.{length}
-use Rattle.bands.specs.Bands.{band_at, specials_among}
+use Rattle.bands.specs.Bands.{band_at}
 use Rattle.bands.specs.Inner.{Least}
 use Rattle.bands.proofs.Bands.{band_of_slot, none_special}
 use Rattle.histogram.specs.Terms.{paired}

@@ -1,5 +1,7 @@
 // Building the first best synopsis of a profile, and the least band for a number of terms.
 // Terms are handed over in two slices of equal length, their nodes and their values; special slots come so too.
+#![tactic(auto)]
+
 mod tree;
 
 ghost use Rattle.std.specs.Prelude.{◌≡◌, ◌≤◌, length};
