@@ -1,5 +1,7 @@
 // Writing a record: its header, its terms, its special slots and its fill.
 // Terms come as two slices of equal length, their nodes and their values; so do special slots, their slots in `specials` and their bands in `own`.
+#![tactic(auto)]
+
 ghost use Rattle.std.specs.Prelude.{◌≡◌, ◌<◌, length};
 ghost use Rattle.bands.specs.Bands.{special_slots, specials_among};
 ghost use Rattle.bits.specs.Bits.{bits_of, replaced_at};

@@ -1,5 +1,6 @@
 -- `record_read::close_frame` meets its contract: another byte count, or what the fill says.
 use mathlib.Core.Path.{sym, ◌∙◌}
+use native.Mathlib.Omega.{arith}
 use Rattle.record_read.proofs.Frames.{counted, other_byte_count, by_fill}
 use Rattle.record_read.proofs.close_frame.Goals as goal
 
@@ -9,7 +10,7 @@ record_length-requires c = counted c.args.bytes.now c.requires
 pub returns-then-bytes-record_length : goal.returns-then-bytes-record_length
 returns-then-bytes-record_length c =
     let start = c in
-    rw c.no_frame.ensures (other_byte_count start.args.bytes.now start.requires (λ same. c.if-bytes-record_length.true (same ∙ sym c.record_length.ensures)))
+    rw c.no_frame.ensures (other_byte_count start.args.bytes.now start.requires (λ same. omega (arith, same, c.record_length.ensures)))
 
 pub read_fill-requires : goal.read_fill-requires
 read_fill-requires c =

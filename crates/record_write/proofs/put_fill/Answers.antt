@@ -12,9 +12,7 @@ use Rattle.record.specs.Record.{version_for, fields_end}
 use Rattle.record.proofs.Ends.{end_bound}
 use Rattle.record.proofs.Fill.{bits_of_zero}
 use Rattle.record_write.specs.Inner.{filled}
-use borrow.Author.Rules.{rules}
-use Rattle.record_write.proofs.put_fill.Statement.{statement}
-use Rattle.record_write.proofs.put_fill.Tie as tie
+use Rattle.record_write.proofs.put_fill.Goals as goal
 
 -- a field of 0 to the end of the bytes
 zeros_to_end : (bytes : List ℕ) (used : ℕ) → used ≤ 8 * length bytes → replaced_at used (bits (8 * length bytes - used) 0) (bits_of bytes) ≡ filled used (bits_of bytes)
@@ -24,49 +22,28 @@ zeros_to_end bytes used inside =
     let as_many : left ≡ length (bits_of bytes) - used = omega (arith, length_bits_of bytes) in
     rw (drop_of_length-le (bits_of bytes) all, append-nil (bits left 0), bits_of_zero left, as_many)
 
--- the place behind the last field
-placed : (c : tie.After-after-fields) → let a = c.before.before.before.args in c.after-fields.result.at ≡ fields_end (version_for a.specials) a.terms a.specials
-placed c = rw c.before.version-for.ensures at c.after-fields.ensures
-
-version-for-requires : tie.Need-version-for-requires
-version-for-requires c κs = search rules
-
-after-fields-requires : tie.Need-after-fields-requires
-after-fields-requires c κs = search rules
-
-mul-end : tie.Need-overflow-mul-end
-mul-end c =
-    let start = c.before.before.before in
+pub overflow_mul-end : goal.overflow_mul-end
+overflow_mul-end c =
+    let start = c in
     let a = start.args in
     record { fits = omega (arith, start.requires.just_room, end_bound (version_for a.specials) a.terms a.specials start.requires.counted) }
 
-sub-write : tie.Need-overflow-sub-write
-sub-write c = omega (arith, placed c.before, c.before.before.before.before.requires.just_room)
+pub overflow_sub-end : goal.overflow_sub-end
+overflow_sub-end c =
+    let placed : let a = c.args in c.after_fields-place.result.at ≡ fields_end (version_for a.specials) a.terms a.specials = rw c.version_for.ensures at c.after_fields-place.ensures in
+    omega (arith, placed, c.requires.just_room)
 
-write-requires : tie.Need-write-requires
-write-requires c κs =
-    let room = c.before.before.before.before.before.requires.just_room in
-    record { within = record { narrow = omega (arith, placed c.before.before, room); inside = omega (arith, placed c.before.before, room) }; fits = pow_pos _ }
+pub write-requires : goal.write-requires
+write-requires c =
+    let placed : let a = c.args in c.after_fields-place.result.at ≡ fields_end (version_for a.specials) a.terms a.specials = rw c.version_for.ensures at c.after_fields-place.ensures in
+    let room = c.requires.just_room in
+    record { within = record { narrow = omega (arith, placed, room); inside = omega (arith, placed, room) }; fits = pow_pos _ }
 
-same_length : tie.Need-same-length
-same_length c = search rules
-
-returns : tie.Need-returns
+pub returns : goal.returns
 returns c =
-    let start = c.before.before.before.before.before.before.before.before in
+    let placed : let a = c.args in c.after_fields-place.result.at ≡ fields_end (version_for a.specials) a.terms a.specials = rw c.version_for.ensures at c.after_fields-place.ensures in
+    let start = c in
     let a = start.args in
     let end = fields_end (version_for a.specials) a.terms a.specials in
-    rw (placed c.before.before.before.before.before) at c.before.before.write.ensures
+    rw (placed) at c.write.ensures
     ∙ zeros_to_end a.bytes.now end (omega (arith, start.requires.just_room))
-
-pub put_fill_spec : {M : Type 1} → statement M
-put_fill_spec =
-    tie.close
-    (tie.spec
-    version-for-requires
-    after-fields-requires
-    mul-end
-    sub-write
-    write-requires
-    same_length
-    returns)
