@@ -10,14 +10,14 @@ ghost use Rattle.air.specs.Inner.{entry_of, Searchable};
 use factory::FLOWS;
 
 // The flow of a step in thousandths, 0 where the step is refused.
-#[derive(Drop)]
+#[derive(Clone, Copy)]
 pub struct FlowAnswer {
     pub refusal: u8,
     pub flow: u16,
 }
 
 // The lowest step for a flow, 0 where the flow is refused.
-#[derive(Drop)]
+#[derive(Clone, Copy)]
 pub struct StepAnswer {
     pub refusal: u8,
     pub step: u16,

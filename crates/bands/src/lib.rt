@@ -7,7 +7,7 @@ ghost use Rattle.bands.specs.Bands.{special_slots, right_specials, slot_bands, s
 ghost use Rattle.bands.specs.Inner.{right_here, Right, RightForSome, Put, Room, Gathered, Least};
 
 // A special slot: a slot, and the band of its own in hundredths.
-#[derive(Drop)]
+#[derive(Clone, Copy)]
 pub struct SpecialSlot {
     pub slot: u16,
     pub band: u16,

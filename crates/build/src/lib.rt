@@ -21,7 +21,7 @@ use tree::{build_tree, greatest_margin_within, height_over};
 use verdict::judge;
 
 // Building's answer: how many terms were handed over, and their greatest error.
-#[derive(Drop)]
+#[derive(Clone, Copy)]
 pub struct BuildAnswer {
     pub refusal: u8,
     pub count: usize,
@@ -211,7 +211,7 @@ fn error_of(
 }
 
 // The least band's answer.
-#[derive(Drop)]
+#[derive(Clone, Copy)]
 pub struct LeastBandAnswer {
     pub refusal: u8,
     pub band: u16,

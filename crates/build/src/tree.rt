@@ -22,7 +22,7 @@ pub fn height_over(slots: usize) -> u32
 }
 
 // The margin that a search found, and whether scratch is solved for it.
-#[derive(Drop)]
+#[derive(Clone, Copy)]
 pub struct FoundMargin {
     pub margin: u32,
     pub solved: bool,
@@ -83,7 +83,7 @@ fn solve_greatest_margin(
 }
 
 // What was built over a tree.
-#[derive(Drop)]
+#[derive(Clone, Copy)]
 pub struct TreeAnswer {
     pub count: usize,
     pub margin: u32,

@@ -5,7 +5,7 @@ ghost use Rattle.decimal.specs.Answers.{NumberRead};
 ghost use Rattle.decimal.specs.Inner.{FrontRead, PartRead, UnitsRead, Marked, DigitRead, DigitsRead, with_units};
 
 // A number that was read, or the refusal 1 with 0.
-#[derive(Drop)]
+#[derive(Clone, Copy)]
 pub struct NumberAnswer {
     pub refusal: u8,
     pub number: i32,
@@ -13,7 +13,7 @@ pub struct NumberAnswer {
 
 // The number that some bytes begin with, and how many of them it takes.
 // Where there is none, the count is beyond the bytes, so that it is no field's length and no byte follows it.
-#[derive(Drop)]
+#[derive(Clone, Copy)]
 pub struct Front {
     pub number: i32,
     pub count: usize,

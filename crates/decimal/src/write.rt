@@ -5,7 +5,7 @@ ghost use Rattle.decimal.specs.Answers.{NumberWritten};
 ghost use Rattle.decimal.specs.Inner.{Grown};
 
 // The refusal, or 0 and how many bytes were written.
-#[derive(Drop)]
+#[derive(Clone, Copy)]
 pub struct WriteAnswer {
     pub refusal: u8,
     pub count: usize,

@@ -7,7 +7,7 @@ pub mod restore;
 pub mod terms;
 
 // A term of a synopsis: a node number and a value in hundredths.
-#[derive(Drop)]
+#[derive(Clone, Copy)]
 pub struct Term {
     pub node: u16,
     pub value: i16,

@@ -27,7 +27,7 @@ pub fn refuse_synopsis(slots: usize, rest: i32, nodes: &[u16], values: &[i16]) -
 }
 
 // One slot's answer.
-#[derive(Drop)]
+#[derive(Clone, Copy)]
 pub struct SlotAnswer {
     pub refusal: u8,
     pub setpoint: i16,

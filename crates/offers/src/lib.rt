@@ -61,7 +61,7 @@ fn choose_for(
 }
 
 // A candidate: how many bytes its record has, how many terms, and its least margin.
-#[derive(Drop)]
+#[derive(Clone, Copy)]
 pub struct Candidate {
     pub size: usize,
     pub terms: usize,

@@ -19,7 +19,7 @@ pub const LONGEST_SLOT_LINE: usize = 18;
 pub const LONGEST_TEXT: usize = LONGEST_LINE * 2 + LONGEST_SLOT_LINE * 512;
 
 // The numbers of a text, or the refusal with 0 for each.
-#[derive(Drop)]
+#[derive(Clone, Copy)]
 pub struct TextAnswer {
     pub refusal: u8,
     pub rest: i32,

@@ -13,7 +13,7 @@ const LINE_END: u8 = 10;
 const SPACE: u8 = 32;
 
 // The number of a line and the place of the next line, or a refusal.
-#[derive(Drop)]
+#[derive(Clone, Copy)]
 pub struct LineAnswer {
     pub refusal: u8,
     pub number: i32,
@@ -21,7 +21,7 @@ pub struct LineAnswer {
 }
 
 // The setpoint of a line, the band that its slot goes by and the place of the next line, or a refusal with 0 for each.
-#[derive(Drop)]
+#[derive(Clone, Copy)]
 pub struct SlotAnswer {
     pub refusal: u8,
     pub setpoint: i16,

@@ -23,7 +23,7 @@ pub fn record_length(version: u16, terms: usize, specials: usize) -> usize
 }
 
 // The places of the fields after the version, in their order, and of the first term.
-#[derive(Drop)]
+#[derive(Clone, Copy)]
 pub struct FieldPlaces {
     pub length: BitPlace,
     pub band: BitPlace,

@@ -33,7 +33,7 @@ pub fn read_slot(bytes: &[u8], slot: usize) -> SlotAnswer
 }
 
 // The check's answer: kept with the greatest error, or not kept with the lowest slot beyond its band.
-#[derive(Drop)]
+#[derive(Clone, Copy)]
 pub struct CheckAnswer {
     pub refusal: u8,
     pub kept: bool,

@@ -11,7 +11,7 @@ use histogram::terms::{is_valid, padded_length};
 use record::{after_fields, after_terms, first_special, places, record_length};
 
 // A record's header, or the refusal with 0 for each. The band is the common one, `count` that of the terms and `specials` that of the special slots.
-#[derive(Drop)]
+#[derive(Clone, Copy)]
 pub struct HeaderAnswer {
     pub refusal: u8,
     pub slots: usize,

@@ -18,7 +18,7 @@ use histogram::terms::{is_valid, padded_length};
 use record::{after_fields, after_terms, first_special, places, record_length, version_for};
 
 // The refusal, or 0 and how many bytes were written.
-#[derive(Drop)]
+#[derive(Clone, Copy)]
 pub struct WriteAnswer {
     pub refusal: u8,
     pub count: usize,

@@ -35,7 +35,7 @@ fn power_of_two(exponent: u32) -> u32
 
 // How a node's setpoints and stretch part between its children: the left child's setpoints end at `half`,
 // the children's stretches lie from `own` to `middle` and from there to `end`.
-#[derive(Drop)]
+#[derive(Clone, Copy)]
 pub struct ChildPlaces {
     pub half: u32,
     pub own: u32,

@@ -11,7 +11,7 @@ use limits::{greater, lesser};
 
 // Kept with the greatest error and the least margin, or not kept with the lowest slot beyond its band.
 // The slot comes first: as the low bits of the answer it takes no instruction in `compare`'s loop.
-#[derive(Drop)]
+#[derive(Clone, Copy)]
 pub struct Verdict {
     pub slot: u16,
     pub kept: bool,

@@ -87,7 +87,7 @@ fn write_between(scratch: &mut [i16], count: u32, low: u32, high: u32) -> u32
 }
 
 // What is left of two sets: where the next window of each is, and how many there are.
-#[derive(Drop)]
+#[derive(Clone, Copy)]
 pub struct Rest {
     pub left: u32,
     pub lefts: u32,
