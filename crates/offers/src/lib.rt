@@ -1,4 +1,6 @@
 // The better of two offers: two records for one profile text, each at the front of a buffer of its own.
+#![tactic(auto)]
+
 ghost use Rattle.std.specs.Prelude.{◌≡◌, ◌≤◌, length};
 ghost use Rattle.bands.specs.Bands.{same_bands};
 ghost use Rattle.offers.specs.Offers.{candidate_offer, offer_of, beats, better, winner_for, winner, part_of, better_offer};

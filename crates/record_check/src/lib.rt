@@ -1,4 +1,6 @@
 // One slot of a record, and the check of setpoints against a record.
+#![tactic(auto)]
+
 ghost use Rattle.std.specs.Prelude.{◌≡◌, length, take};
 ghost use Rattle.verdict.specs.Verdict.{Judged};
 ghost use Rattle.record_check.specs.Checking.{SlotRead, Checked};

@@ -23,20 +23,20 @@ returns-then-refusal-gt0 c =
 pub overflow_cast-common : goal.overflow_cast-common
 overflow_cast-common c =
     let refusal_answer : let a = c.args in c.refuse-refusal.result ≡ packing_refusal a.slots a.band a.rest (paired a.nodes.now a.values.now) (special_slots a.specials.now a.own.now) = rw (to_z-of_z c.ranges.band, to_z-of_z c.ranges.rest) at c.refuse-refusal.ensures in
-    let accepted_here : let a = c.args in Accepted a.slots a.band a.rest (paired a.nodes.now a.values.now) (special_slots a.specials.now a.own.now) = accepted _ _ _ _ _ (refusal_answer) c.if-refusal-gt0.false in
+    let accepted_here : let a = c.args in Accepted a.slots a.band a.rest (paired a.nodes.now a.values.now) (special_slots a.specials.now a.own.now) = accepted _ _ _ _ _ (refusal_answer) (omega arith) in
     let right = accepted_here in
     rw (to_z-of_z c.ranges.band) (right.band_from_zero, record { fits = omega (arith, right.band_within) })
 
 pub overflow_cast-rest : goal.overflow_cast-rest
 overflow_cast-rest c =
     let refusal_answer : let a = c.args in c.refuse-refusal.result ≡ packing_refusal a.slots a.band a.rest (paired a.nodes.now a.values.now) (special_slots a.specials.now a.own.now) = rw (to_z-of_z c.ranges.band, to_z-of_z c.ranges.rest) at c.refuse-refusal.ensures in
-    let accepted_here : let a = c.args in Accepted a.slots a.band a.rest (paired a.nodes.now a.values.now) (special_slots a.specials.now a.own.now) = accepted _ _ _ _ _ (refusal_answer) c.if-refusal-gt0.false in
+    let accepted_here : let a = c.args in Accepted a.slots a.band a.rest (paired a.nodes.now a.values.now) (special_slots a.specials.now a.own.now) = accepted _ _ _ _ _ (refusal_answer) (omega arith) in
     narrower_fits c.ranges.rest (accepted_here).rest_within
 
 pub write_for_bands-requires : goal.write_for_bands-requires
 write_for_bands-requires c =
     let refusal_answer : let a = c.args in c.refuse-refusal.result ≡ packing_refusal a.slots a.band a.rest (paired a.nodes.now a.values.now) (special_slots a.specials.now a.own.now) = rw (to_z-of_z c.ranges.band, to_z-of_z c.ranges.rest) at c.refuse-refusal.ensures in
-    let accepted_here : let a = c.args in Accepted a.slots a.band a.rest (paired a.nodes.now a.values.now) (special_slots a.specials.now a.own.now) = accepted _ _ _ _ _ (refusal_answer) c.if-refusal-gt0.false in
+    let accepted_here : let a = c.args in Accepted a.slots a.band a.rest (paired a.nodes.now a.values.now) (special_slots a.specials.now a.own.now) = accepted _ _ _ _ _ (refusal_answer) (omega arith) in
     let none_here : let a = c.args in BandsFor a.slots (nat_abs a.band) a.specials.now a.own.now a.own.now = let start = c in no_bands start.args.slots (nat_abs start.args.band) start.args.specials.now start.args.own.now start.requires.1 c.if-specials-eq0.true in
     let start = c in
     rw (to_z-of_z start.ranges.band, ← c.if-specials-eq0.true) (writable start.requires.0 start.requires.1 (accepted_here) (none_here))
@@ -44,7 +44,7 @@ write_for_bands-requires c =
 pub returns-then-specials-eq0 : goal.returns-then-specials-eq0
 returns-then-specials-eq0 c =
     let refusal_answer : let a = c.args in c.refuse-refusal.result ≡ packing_refusal a.slots a.band a.rest (paired a.nodes.now a.values.now) (special_slots a.specials.now a.own.now) = rw (to_z-of_z c.ranges.band, to_z-of_z c.ranges.rest) at c.refuse-refusal.ensures in
-    let accepted_here : let a = c.args in Accepted a.slots a.band a.rest (paired a.nodes.now a.values.now) (special_slots a.specials.now a.own.now) = accepted _ _ _ _ _ (refusal_answer) c.if-refusal-gt0.false in
+    let accepted_here : let a = c.args in Accepted a.slots a.band a.rest (paired a.nodes.now a.values.now) (special_slots a.specials.now a.own.now) = accepted _ _ _ _ _ (refusal_answer) (omega arith) in
     let none_here : let a = c.args in BandsFor a.slots (nat_abs a.band) a.specials.now a.own.now a.own.now = let start = c in no_bands start.args.slots (nat_abs start.args.band) start.args.specials.now start.args.own.now start.requires.1 c.if-specials-eq0.true in
     let start = c in
     let a = start.args in
@@ -55,19 +55,19 @@ returns-then-specials-eq0 c =
 pub slice_bounds-bands-end : goal.slice_bounds-bands-end
 slice_bounds-bands-end c =
     let refusal_answer : let a = c.args in c.refuse-refusal.result ≡ packing_refusal a.slots a.band a.rest (paired a.nodes.now a.values.now) (special_slots a.specials.now a.own.now) = rw (to_z-of_z c.ranges.band, to_z-of_z c.ranges.rest) at c.refuse-refusal.ensures in
-    let accepted_here : let a = c.args in Accepted a.slots a.band a.rest (paired a.nodes.now a.values.now) (special_slots a.specials.now a.own.now) = accepted _ _ _ _ _ (refusal_answer) c.if-refusal-gt0.false in
+    let accepted_here : let a = c.args in Accepted a.slots a.band a.rest (paired a.nodes.now a.values.now) (special_slots a.specials.now a.own.now) = accepted _ _ _ _ _ (refusal_answer) (omega arith) in
     (accepted_here).slots.few_slots
 
 pub slice_bounds-spread-end : goal.slice_bounds-spread-end
 slice_bounds-spread-end c =
     let refusal_answer : let a = c.args in c.refuse-refusal.result ≡ packing_refusal a.slots a.band a.rest (paired a.nodes.now a.values.now) (special_slots a.specials.now a.own.now) = rw (to_z-of_z c.ranges.band, to_z-of_z c.ranges.rest) at c.refuse-refusal.ensures in
-    let accepted_here : let a = c.args in Accepted a.slots a.band a.rest (paired a.nodes.now a.values.now) (special_slots a.specials.now a.own.now) = accepted _ _ _ _ _ (refusal_answer) c.if-refusal-gt0.false in
+    let accepted_here : let a = c.args in Accepted a.slots a.band a.rest (paired a.nodes.now a.values.now) (special_slots a.specials.now a.own.now) = accepted _ _ _ _ _ (refusal_answer) (omega arith) in
     sym (length-take-le _ _ (accepted_here).slots.few_slots)
 
 pub spread-requires : goal.spread-requires
 spread-requires c =
     let refusal_answer : let a = c.args in c.refuse-refusal.result ≡ packing_refusal a.slots a.band a.rest (paired a.nodes.now a.values.now) (special_slots a.specials.now a.own.now) = rw (to_z-of_z c.ranges.band, to_z-of_z c.ranges.rest) at c.refuse-refusal.ensures in
-    let accepted_here : let a = c.args in Accepted a.slots a.band a.rest (paired a.nodes.now a.values.now) (special_slots a.specials.now a.own.now) = accepted _ _ _ _ _ (refusal_answer) c.if-refusal-gt0.false in
+    let accepted_here : let a = c.args in Accepted a.slots a.band a.rest (paired a.nodes.now a.values.now) (special_slots a.specials.now a.own.now) = accepted _ _ _ _ _ (refusal_answer) (omega arith) in
     let start = c in
     let right = accepted_here in
     right_for_room start.args.slots _ _ _ _ right.slots.few_slots start.requires.1 (rw (to_z-of_z start.ranges.band) right.specials_right_lem)
@@ -75,13 +75,13 @@ spread-requires c =
 pub overflow_cast-rest-2 : goal.overflow_cast-rest-2
 overflow_cast-rest-2 c =
     let refusal_answer : let a = c.args in c.refuse-refusal.result ≡ packing_refusal a.slots a.band a.rest (paired a.nodes.now a.values.now) (special_slots a.specials.now a.own.now) = rw (to_z-of_z c.ranges.band, to_z-of_z c.ranges.rest) at c.refuse-refusal.ensures in
-    let accepted_here : let a = c.args in Accepted a.slots a.band a.rest (paired a.nodes.now a.values.now) (special_slots a.specials.now a.own.now) = accepted _ _ _ _ _ (refusal_answer) c.if-refusal-gt0.false in
+    let accepted_here : let a = c.args in Accepted a.slots a.band a.rest (paired a.nodes.now a.values.now) (special_slots a.specials.now a.own.now) = accepted _ _ _ _ _ (refusal_answer) (omega arith) in
     narrower_fits c.ranges.rest (accepted_here).rest_within
 
 pub slice_bounds-bands-end-2 : goal.slice_bounds-bands-end-2
 slice_bounds-bands-end-2 c =
     let refusal_answer : let a = c.args in c.refuse-refusal.result ≡ packing_refusal a.slots a.band a.rest (paired a.nodes.now a.values.now) (special_slots a.specials.now a.own.now) = rw (to_z-of_z c.ranges.band, to_z-of_z c.ranges.rest) at c.refuse-refusal.ensures in
-    let accepted_here : let a = c.args in Accepted a.slots a.band a.rest (paired a.nodes.now a.values.now) (special_slots a.specials.now a.own.now) = accepted _ _ _ _ _ (refusal_answer) c.if-refusal-gt0.false in
+    let accepted_here : let a = c.args in Accepted a.slots a.band a.rest (paired a.nodes.now a.values.now) (special_slots a.specials.now a.own.now) = accepted _ _ _ _ _ (refusal_answer) (omega arith) in
     let room_here : let a = c.args in a.slots ≤ length (c.spread.new.bands ++ drop a.slots (replicate 512 0)) = let start = c in
     let a = start.args in
     let long = spread_long a.slots (nat_abs a.band) (special_slots a.specials.now a.own.now) c.spread.new.bands (replicate 512 0) (accepted_here).slots.few_slots
@@ -92,7 +92,7 @@ slice_bounds-bands-end-2 c =
 pub slice_bounds-write_for_bands-end : goal.slice_bounds-write_for_bands-end
 slice_bounds-write_for_bands-end c =
     let refusal_answer : let a = c.args in c.refuse-refusal.result ≡ packing_refusal a.slots a.band a.rest (paired a.nodes.now a.values.now) (special_slots a.specials.now a.own.now) = rw (to_z-of_z c.ranges.band, to_z-of_z c.ranges.rest) at c.refuse-refusal.ensures in
-    let accepted_here : let a = c.args in Accepted a.slots a.band a.rest (paired a.nodes.now a.values.now) (special_slots a.specials.now a.own.now) = accepted _ _ _ _ _ (refusal_answer) c.if-refusal-gt0.false in
+    let accepted_here : let a = c.args in Accepted a.slots a.band a.rest (paired a.nodes.now a.values.now) (special_slots a.specials.now a.own.now) = accepted _ _ _ _ _ (refusal_answer) (omega arith) in
     let room_here : let a = c.args in a.slots ≤ length (c.spread.new.bands ++ drop a.slots (replicate 512 0)) = let start = c in
     let a = start.args in
     let long = spread_long a.slots (nat_abs a.band) (special_slots a.specials.now a.own.now) c.spread.new.bands (replicate 512 0) (accepted_here).slots.few_slots
@@ -103,7 +103,7 @@ slice_bounds-write_for_bands-end c =
 pub write_for_bands-requires-2 : goal.write_for_bands-requires-2
 write_for_bands-requires-2 c =
     let refusal_answer : let a = c.args in c.refuse-refusal.result ≡ packing_refusal a.slots a.band a.rest (paired a.nodes.now a.values.now) (special_slots a.specials.now a.own.now) = rw (to_z-of_z c.ranges.band, to_z-of_z c.ranges.rest) at c.refuse-refusal.ensures in
-    let accepted_here : let a = c.args in Accepted a.slots a.band a.rest (paired a.nodes.now a.values.now) (special_slots a.specials.now a.own.now) = accepted _ _ _ _ _ (refusal_answer) c.if-refusal-gt0.false in
+    let accepted_here : let a = c.args in Accepted a.slots a.band a.rest (paired a.nodes.now a.values.now) (special_slots a.specials.now a.own.now) = accepted _ _ _ _ _ (refusal_answer) (omega arith) in
     let spread_here : let a = c.args in BandsFor a.slots (nat_abs a.band) a.specials.now a.own.now (take a.slots (c.spread.new.bands ++ drop a.slots (replicate 512 0))) = let start = c in
     let a = start.args in
     let right = accepted_here in
@@ -116,7 +116,7 @@ write_for_bands-requires-2 c =
 pub returns : goal.returns
 returns c =
     let refusal_answer : let a = c.args in c.refuse-refusal.result ≡ packing_refusal a.slots a.band a.rest (paired a.nodes.now a.values.now) (special_slots a.specials.now a.own.now) = rw (to_z-of_z c.ranges.band, to_z-of_z c.ranges.rest) at c.refuse-refusal.ensures in
-    let accepted_here : let a = c.args in Accepted a.slots a.band a.rest (paired a.nodes.now a.values.now) (special_slots a.specials.now a.own.now) = accepted _ _ _ _ _ (refusal_answer) c.if-refusal-gt0.false in
+    let accepted_here : let a = c.args in Accepted a.slots a.band a.rest (paired a.nodes.now a.values.now) (special_slots a.specials.now a.own.now) = accepted _ _ _ _ _ (refusal_answer) (omega arith) in
     let spread_here : let a = c.args in BandsFor a.slots (nat_abs a.band) a.specials.now a.own.now (take a.slots (c.spread.new.bands ++ drop a.slots (replicate 512 0))) = let start = c in
     let a = start.args in
     let right = accepted_here in
