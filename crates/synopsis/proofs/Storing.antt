@@ -37,19 +37,19 @@ module _ {A B D : Type 0} (make : A → B → D) where
   zipped (first ∷ firsts) (second ∷ seconds) = make first second ∷ zipped firsts seconds
 
   -- the pair at a place
-  zipped_at : (firsts : List A) (seconds : List B) (a : A) (b : B) (d : D) (k : ℕ) → k < length firsts → k < length seconds → make (get_or firsts k a) (get_or seconds k b) ≡ get_or (zipped firsts seconds) k d
+  pub zipped_at : (firsts : List A) (seconds : List B) (a : A) (b : B) (d : D) (k : ℕ) → k < length firsts → k < length seconds → make (get_or firsts k a) (get_or seconds k b) ≡ get_or (zipped firsts seconds) k d
   zipped_at [] seconds a b d k below below' = absurd (omega arith)
   zipped_at (first ∷ firsts) [] a b d k below below' = absurd (omega arith)
   zipped_at (first ∷ firsts) (second ∷ seconds) a b d zero below below' = refl
   zipped_at (first ∷ firsts) (second ∷ seconds) a b d (suc k) below below' = zipped_at firsts seconds a b d k (omega arith) (omega arith)
 
-  take_zipped : (n : ℕ) (firsts : List A) (seconds : List B) → take n (zipped firsts seconds) ≡ zipped (take n firsts) (take n seconds)
+  pub take_zipped : (n : ℕ) (firsts : List A) (seconds : List B) → take n (zipped firsts seconds) ≡ zipped (take n firsts) (take n seconds)
   take_zipped zero firsts seconds = refl
   take_zipped (suc n) [] seconds = refl
   take_zipped (suc n) (first ∷ firsts) [] = refl
   take_zipped (suc n) (first ∷ firsts) (second ∷ seconds) = ap (λ (l : List D). make first second ∷ l) (take_zipped n firsts seconds)
 
-  as_many_zipped : (n : ℕ) (firsts : List A) (seconds : List B) → n ≤ length firsts → n ≤ length seconds → n ≤ length (zipped firsts seconds)
+  pub as_many_zipped : (n : ℕ) (firsts : List A) (seconds : List B) → n ≤ length firsts → n ≤ length seconds → n ≤ length (zipped firsts seconds)
   as_many_zipped zero firsts seconds in-firsts in-seconds = omega arith
   as_many_zipped (suc n) [] seconds in-firsts in-seconds = absurd (omega arith)
   as_many_zipped (suc n) (first ∷ firsts) [] in-firsts in-seconds = absurd (omega arith)
