@@ -1,4 +1,6 @@
 // The library's face for C: numbers and byte slices alone. Every call answers with one number of four 16-bit fields.
+#![tactic(auto)]
+
 ghost use Rattle.std.specs.Prelude.{◌≡◌, nat_abs};
 ghost use Rattle.limits.specs.Answers.{◌when◌};
 ghost use Rattle.panel.specs.Results.{packed_fields, slot_result, against_text_result, TextToRecord, LeastBandOfText, better_offer_result, flow_result, step_result};
