@@ -11,7 +11,7 @@ from typing import NamedTuple
 ROOT = pathlib.Path(__file__).resolve().parent.parent
 # The first proves and builds the second where that is needed, and explains a refusal.
 FIRE = ROOT / "fire"
-PROGRAM = ROOT / "target" / "bin" / "fire"
+PROGRAM = ROOT / "crates" / "fire" / "out" / "fire"
 
 
 class Fired(NamedTuple):

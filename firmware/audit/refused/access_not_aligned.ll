@@ -1,13 +1,21 @@
 ; refused: alignment
-; line: 8
+; line: 10
 target datalayout = "e-m:e-p270:32:32-p271:32:32-p272:64:64-i64:64-i128:128-f80:128-n8:16:32:64-S128"
 target triple = "x86_64-unknown-linux-gnu"
 
-define internal noundef i64 @"planted::sum"(ptr noundef %a0, i64 noundef %a1) #0 {
+define internal void @"planted::field"(ptr noundef %a0) #0 {
 start:
-  %r0 = load i64, ptr %a0, align 4
-  %r1 = add nuw i64 %r0, %a1
-  ret i64 %r1
+  %r0 = alloca [24 x i8], align 8
+  %r1 = alloca [8 x i8], align 8
+  store i32 1, ptr %r0, align 8
+  %r2 = getelementptr i8, ptr %r0, i64 8
+  store ptr %a0, ptr %r2, align 8
+  %r3 = getelementptr i8, ptr %r0, i64 0
+  call void @llvm.memmove.p0.p0.i64(ptr %r1, ptr %r3, i64 8, i1 false)
+  ret void
 }
 
-attributes #0 = { nounwind "probe-stack"="inline-asm" "target-cpu"="x86-64" }
+declare void @llvm.memmove.p0.p0.i64(ptr writeonly captures(none), ptr readonly captures(none), i64, i1 immarg) #1
+
+attributes #0 = { nounwind "probe-stack"="inline-asm" "stack-probe-size"="3072" "target-cpu"="x86-64-v2" }
+attributes #1 = { nocallback nofree nounwind willreturn memory(argmem: readwrite) }

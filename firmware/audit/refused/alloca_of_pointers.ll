@@ -24,4 +24,4 @@ filled.2:                                         ; preds = %repeat.1
   ret i16 %r6
 }
 
-attributes #0 = { nounwind "probe-stack"="inline-asm" "target-cpu"="x86-64" }
+attributes #0 = { nounwind "probe-stack"="inline-asm" "stack-probe-size"="3072" "target-cpu"="x86-64-v2" }

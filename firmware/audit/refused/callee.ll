@@ -25,7 +25,7 @@ else.2:                                           ; preds = %start
 ; Function Attrs: cold noreturn nounwind memory(inaccessiblemem: write)
 declare void @llvm.trap() #2
 
-attributes #0 = { nounwind "probe-stack"="inline-asm" "target-cpu"="x86-64" }
+attributes #0 = { nounwind "probe-stack"="inline-asm" "stack-probe-size"="3072" "target-cpu"="x86-64-v2" }
 attributes #2 = { cold noreturn nounwind memory(inaccessiblemem: write) }
 
 !llvm.ident = !{!0}

@@ -17,5 +17,5 @@ start:
 }
 
 
-attributes #0 = { nounwind "probe-stack"="inline-asm" "target-cpu"="x86-64" }
+attributes #0 = { nounwind "probe-stack"="inline-asm" "stack-probe-size"="3072" "target-cpu"="x86-64-v2" }
 attributes #1 = { nocallback nofree nounwind willreturn memory(argmem: readwrite) }

@@ -1,12 +1,12 @@
-//! The programs `fire`, `levels`, `flows` and `steps`, as `./fire` and tests/run have proved and built them.
+//! The programs `fire`, `levels`, `flows` and `steps`, as `rt ci` or tools/build has proved and built them.
 
 use std::io::{ErrorKind, Write};
 use std::process::{Command, Stdio};
 
-const FIRE: &str = concat!(env!("CARGO_MANIFEST_DIR"), "/../../target/bin/fire");
-const LEVELS: &str = concat!(env!("CARGO_MANIFEST_DIR"), "/../../target/bin/levels");
-const FLOWS: &str = concat!(env!("CARGO_MANIFEST_DIR"), "/../../target/bin/flows");
-const STEPS: &str = concat!(env!("CARGO_MANIFEST_DIR"), "/../../target/bin/steps");
+const FIRE: &str = concat!(env!("CARGO_MANIFEST_DIR"), "/../../crates/fire/out/fire");
+const LEVELS: &str = concat!(env!("CARGO_MANIFEST_DIR"), "/../../crates/levels/out/levels");
+const FLOWS: &str = concat!(env!("CARGO_MANIFEST_DIR"), "/../../crates/flows/out/flows");
+const STEPS: &str = concat!(env!("CARGO_MANIFEST_DIR"), "/../../crates/steps/out/steps");
 
 /// What the program `fire` prints for a text on its standard input. It need not read all of a long one.
 pub fn fire(text: &[u8]) -> Vec<u8> {

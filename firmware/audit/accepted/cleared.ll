@@ -1,0 +1,19 @@
+; accepted: a slice is cleared before it is written
+target datalayout = "e-m:e-p270:32:32-p271:32:32-p272:64:64-i64:64-i128:128-f80:128-n8:16:32:64-S128"
+target triple = "x86_64-unknown-linux-gnu"
+
+define internal noundef i64 @"planted::cleared"(ptr noundef %a0, i64 noundef %a1) #0 {
+start:
+  %r0 = alloca [16 x i8], align 8
+  call void @llvm.memset.p0.i64(ptr %r0, i8 0, i64 16, i1 false)
+  store ptr %a0, ptr %r0, align 8
+  %r1 = getelementptr i8, ptr %r0, i64 8
+  store i64 %a1, ptr %r1, align 8
+  %r2 = load i64, ptr %r1, align 8
+  ret i64 %r2
+}
+
+declare void @llvm.memset.p0.i64(ptr writeonly captures(none), i8, i64, i1 immarg) #1
+
+attributes #0 = { nounwind "probe-stack"="inline-asm" "stack-probe-size"="3072" "target-cpu"="x86-64-v2" }
+attributes #1 = { nocallback nofree nounwind willreturn memory(argmem: write) }
