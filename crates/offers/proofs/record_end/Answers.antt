@@ -48,7 +48,7 @@ record_length-requires c =
     let specials_read : c.read-specials.result ≡ special_count_in c.args.buffer.now = let buffer = c.args.buffer.now in
     let second : version_in buffer ≡ 2 = sym (version_read) ∙ c.if-version-ne2.false in
     rw (c.after_terms.ensures, count_read) at c.read-specials.ensures ∙ sym (special_count_field buffer second) in
-    record { few_terms = few; few_specials = rw (specials_read) (few_specials c.args.buffer.now) }
+    record { few_terms = few; few_specials = omega (arith, specials_read, few_specials c.args.buffer.now) }
 
 pub returns : goal.returns
 returns c =
