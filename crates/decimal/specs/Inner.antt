@@ -32,7 +32,7 @@ with_units units field = added (100 * units) (fraction field)
 
 -- bytes that begin with a mark, and how many digits may follow it
 pub record Marked (bytes : List ℕ) (most : ℕ) : Type 0 where
-  pub is_mark_lem : is_mark (slice_index bytes 0) ≡ true
+  pub at_mark : is_mark (slice_index bytes 0) ≡ true
   pub most_is : most ≡ most_digits (slice_index bytes 0)
 
 -- the number that a digit stands for, and 10 or more for any other byte

@@ -31,7 +31,7 @@ module _ (text : List ℕ) (at : ℕ) (number : ℤ) (count : ℕ) (front : Fron
 
   -- no byte that is not 0 stands behind the text
   pub in_text : (mark : ℕ) → 0 < mark → get_or text (at + count) 0 ≡ mark → at + count < length text
-  in_text mark not-zero is_mark_lem = by_test (ltb (at + count) (length text)) refl
+  in_text mark not-zero at_mark = by_test (ltb (at + count) (length text)) refl
     where
       by_test : (less : Bool) → ltb (at + count) (length text) ≡ less → at + count < length text
       by_test true is = ltb-true (at + count) (length text) is
@@ -54,9 +54,9 @@ module _ (text : List ℕ) (at : ℕ) (number : ℤ) (count : ℕ) (front : Fron
 
     -- the field, the byte behind it and what follows
     parted : (mark : ℕ) → get_or text (at + count) 0 ≡ mark → drop at text ≡ take count (drop at text) ++ (mark ∷ drop (at + count + 1) text)
-    parted mark is_mark_lem =
+    parted mark at_mark =
         split_at (drop at text) count 0 count_inside
-        ∙ rw (byte_behind ∙ is_mark_lem, behind_field)
+        ∙ rw (byte_behind ∙ at_mark, behind_field)
 
   module _ (is-end : get_or text (at + count) 0 ≡ 10) where
     abbrev inside_end : at + count < length text

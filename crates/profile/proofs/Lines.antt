@@ -23,8 +23,8 @@ module _ (mark : ℕ) where
   in_front [] = refl
   in_front (byte ∷ bytes) = by_first (eqb byte mark) (in_front bytes)
     where
-      by_first : (is_mark_lem : Bool) → take (length (before mark bytes)) bytes ≡ before mark bytes
-          → take (length (cond is_mark_lem [] (byte ∷ before mark bytes))) (byte ∷ bytes) ≡ cond is_mark_lem [] (byte ∷ before mark bytes)
+      by_first : (at_mark : Bool) → take (length (before mark bytes)) bytes ≡ before mark bytes
+          → take (length (cond at_mark [] (byte ∷ before mark bytes))) (byte ∷ bytes) ≡ cond at_mark [] (byte ∷ before mark bytes)
       by_first true shorter = refl
       by_first false shorter = ap (λ (l : List ℕ). byte ∷ l) shorter
 
@@ -36,9 +36,9 @@ module _ (mark : ℕ) where
   mark_behind [] more = absurd (omega arith)
   mark_behind (byte ∷ bytes) more = by_first (eqb byte mark) refl more (mark_behind bytes)
     where
-      by_first : (is_mark_lem : Bool) → eqb byte mark ≡ is_mark_lem → length (cond is_mark_lem [] (byte ∷ before mark bytes)) < length (byte ∷ bytes)
+      by_first : (at_mark : Bool) → eqb byte mark ≡ at_mark → length (cond at_mark [] (byte ∷ before mark bytes)) < length (byte ∷ bytes)
           → (length (before mark bytes) < length bytes → get_or bytes (length (before mark bytes)) 0 ≡ mark)
-          → get_or (byte ∷ bytes) (length (cond is_mark_lem [] (byte ∷ before mark bytes))) 0 ≡ mark
+          → get_or (byte ∷ bytes) (length (cond at_mark [] (byte ∷ before mark bytes))) 0 ≡ mark
       by_first true is more' shorter = eqb-true byte mark is
       by_first false is more' shorter = shorter (omega arith)
 

@@ -161,7 +161,7 @@ term_reads_back term node_fits value_fits = record { reads = there }
 
 -- what bytes read as is a header, terms and special slots
 pub record ReadsAs (bytes : List ℕ) (n band : ℕ) (rest : ℤ) (terms : List Term) (specials : List SpecialSlot) : Type 0 where
-  pub well_formed_lem : well_formed bytes ≡ true
+  pub form_is_right : well_formed bytes ≡ true
   pub version_same : version_in bytes ≡ version_for (length specials)
   pub slots_same : slots_in bytes ≡ n
   pub band_same : band_in bytes ≡ band
@@ -201,7 +201,7 @@ module _ (n band : ℕ) (rest : ℤ) (terms : List Term) (specials : List Specia
       let long : length bytes ≡ record_length (length terms) (length specials) = length_packed (record_length (length terms) (length specials)) (record_bits n band rest terms specials) in
       let byte_count : bytes_in bytes ≡ record_length (length terms) (length specials) = λ i. bytes_for (version i) (count_is i) (specials_are.0 i) in
       record {
-        well_formed_lem = all_right bytes (le-leb 7 (length bytes) (omega arith)) (ap known_version version ∙ version_known (length specials)) (eq-eqb (length bytes) (bytes_in bytes) (long ∙ sym byte_count)) (eq-eqb (fill_in bytes) 0 fill_is);
+        form_is_right = all_right bytes (le-leb 7 (length bytes) (omega arith)) (ap known_version version ∙ version_known (length specials)) (eq-eqb (length bytes) (bytes_in bytes) (long ∙ sym byte_count)) (eq-eqb (fill_in bytes) 0 fill_is);
         version_same = version;
         slots_same = omega (arith, in_row 1);
         band_same = in_row 2;
@@ -243,4 +243,4 @@ written_reads_back n band rest terms specials none =
     let back = fields_read_back n (nat_abs band) rest terms specials (omega (arith, slots.few_slots)) slots.some_slot (omega arith)
     (within_signed rest (ltb-false 20000 (nat_abs rest) two.0)) (omega (arith, valid_few terms some_end proper)) (valid_fits terms end_small proper)
     (omega (arith, few_specials (nat_abs band) n specials right.passes, slots.few_slots)) (right_fit specials slots.few_slots right) in
-    (rw (back.well_formed_lem, back.rest_same, two.0, back.band_same, le-ltb 40000 (nat_abs band) band-small, back.slots_same, back.terms_same, is_valid, back.specials_same, are_right, back.special_count_same, back.version_same, some_in_second (length specials)), back)
+    (rw (back.form_is_right, back.rest_same, two.0, back.band_same, le-ltb 40000 (nat_abs band) band-small, back.slots_same, back.terms_same, is_valid, back.specials_same, are_right, back.special_count_same, back.version_same, some_in_second (length specials)), back)

@@ -35,7 +35,7 @@ by_tests bytes second_is none_is = λ i. not (second_is i && none_is i) && right
 
 module _ {bytes : List ℕ} {terms specials common : ℕ} {bands : List ℕ} (fits : BandsFit bytes terms specials common bands) where
   parts : WellFormed bytes
-  parts = well_formed_parts bytes fits.well_formed_lem
+  parts = well_formed_parts bytes fits.form_is_right
 
   pub long_enough : 7 ≤ length bytes
   long_enough = parts.long_enough

@@ -47,8 +47,8 @@ module _ {bytes : List ℕ} {answer : HeaderAnswer} (read : HeaderRead bytes ans
     header_right : header_refusal bytes ≡ 0
     header_right = sym read.refusal_is ∙ none
 
-    well_formed_lem : well_formed bytes ≡ true
-    well_formed_lem = not-false (well_formed bytes) (passed 6 (not (well_formed bytes)) (2 when beyond 20000 (rest_in bytes) then 3 when ltb 40000 (band_in bytes)) header_right).0
+    form_is_right : well_formed bytes ≡ true
+    form_is_right = not-false (well_formed bytes) (passed 6 (not (well_formed bytes)) (2 when beyond 20000 (rest_in bytes) then 3 when ltb 40000 (band_in bytes)) header_right).0
 
     count_is : answer.count ≡ count_in bytes
     count_is = rw none at read.header.count_is
@@ -70,7 +70,7 @@ module _ {bytes : List ℕ} {answer : HeaderAnswer} (read : HeaderRead bytes ans
         let few : answer.count ≤ 1023 = rw count_is (Bounds.few_terms bytes) in
         record {
           few = few;
-          inside = omega (arith, (well_formed_parts bytes well_formed_lem).byte_count, count_is);
+          inside = omega (arith, (well_formed_parts bytes form_is_right).byte_count, count_is);
           in_nodes = omega (arith, few, room.of_nodes);
           in_values = omega (arith, few, room.of_values);
         }
@@ -85,7 +85,7 @@ module _ {bytes : List ℕ} {answer : HeaderAnswer} (read : HeaderRead bytes ans
 
       pub bands_fit : BandsFit bytes answer.count answer.specials (nat_abs answer.band) (take answer.slots bands)
       bands_fit = record {
-        well_formed_lem = well_formed_lem;
+        form_is_right = form_is_right;
         terms_is = count_is;
         specials_is = specials_are;
         common_is = rw band_is;

@@ -104,7 +104,7 @@ pub record TermsLaid (bytes : List ℕ) (count : ℕ) (nodes nodes' : List ℕ) 
 
 -- a well-formed record by its counts and its common band, and a place for each slot's band
 pub record BandsFit (bytes : List ℕ) (terms specials common : ℕ) (bands : List ℕ) : Type 0 where
-  pub well_formed_lem : well_formed bytes ≡ true
+  pub form_is_right : well_formed bytes ≡ true
   pub terms_is : terms ≡ count_in bytes
   pub specials_is : specials ≡ special_count_in bytes
   pub common_is : common ≡ band_in bytes

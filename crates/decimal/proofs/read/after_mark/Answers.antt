@@ -24,20 +24,20 @@ module _ {units : ℕ} {bytes : List ℕ} {most tenths hundredths thousandths : 
   marked = asked.1
 
   nothing : (number count : ℕ) → 10 ≤ tenths → number ≡ 0 → count ≡ length bytes + 1 → PartRead (with_units units) bytes number count
-  nothing number count no_digit = without units few bytes number count (λ place. mark_alone bytes place marked.is_mark_lem (digits.first.no_digit no_digit))
+  nothing number count no_digit = without units few bytes number count (λ place. mark_alone bytes place marked.at_mark (digits.first.no_digit no_digit))
 
   module _ (one : tenths < 10) where
     tenths_only : 10 ≤ hundredths → PartRead (with_units units) bytes (units * 100 + tenths * 10) 2
     tenths_only no_digit =
         let first = digits.first.digit_is one in
-        with_fraction units few bytes _ 2 _ (one_digit bytes marked.is_mark_lem first.0 (digits.second.no_digit no_digit)) (omega (arith, first.1)) (omega (arith, first.1))
+        with_fraction units few bytes _ 2 _ (one_digit bytes marked.at_mark first.0 (digits.second.no_digit no_digit)) (omega (arith, first.1)) (omega (arith, first.1))
 
     module _ (other : hundredths < 10) where
       two : has_third bytes ≡ false → PartRead (with_units units) bytes (units * 100 + tenths * 10 + hundredths) 3
       two no_third =
           let first = digits.first.digit_is one in
           let second = digits.second.digit_is other in
-          with_fraction units few bytes _ 3 _ (two_digits bytes marked.is_mark_lem first.0 second.0 no_third) (omega (arith, first.1, second.1)) (omega (arith, first.1, second.1))
+          with_fraction units few bytes _ 3 _ (two_digits bytes marked.at_mark first.0 second.0 no_third) (omega (arith, first.1, second.1)) (omega (arith, first.1, second.1))
 
       no_third_allowed : most < 3 → PartRead (with_units units) bytes (units * 100 + tenths * 10 + hundredths) 3
       no_third_allowed less = two (rw (no_comma (eqb (get_or bytes 0 0) 44) most marked.most_is less))

@@ -11,10 +11,10 @@ module _ (bytes : List ℕ) where
   point : eqb (get_or bytes 0 0) 46 ≡ true → Marked bytes 2
   point a_point =
       let no_comma : eqb (get_or bytes 0 0) 44 ≡ false = ne_eqb (get_or bytes 0 0) 44 (λ is_comma. omega (arith, eqb-true (get_or bytes 0 0) 46 a_point)) in
-      record { is_mark_lem = rw (a_point, or-true (eqb (get_or bytes 0 0) 44)); most_is = rw no_comma }
+      record { at_mark = rw (a_point, or-true (eqb (get_or bytes 0 0) 44)); most_is = rw no_comma }
 
   comma : eqb (get_or bytes 0 0) 44 ≡ true → Marked bytes 3
-  comma a-comma = record { is_mark_lem = rw a-comma; most_is = rw a-comma }
+  comma a-comma = record { at_mark = rw a-comma; most_is = rw a-comma }
 
   neither : eqb (get_or bytes 0 0) 46 ≡ false → eqb (get_or bytes 0 0) 44 ≡ false → is_mark (get_or bytes 0 0) ≡ false
   neither no-point no_comma = rw (no_comma, no-point)
