@@ -1,5 +1,5 @@
 // The library's calls on slices of terms and of special slots.
-// A function that has such a slice is proved by a walk of its MIR, by hand; each takes the list apart, or puts it together, around one that is covered.
+// Each function that has such a slice takes the list apart, or puts it together, around one that has its parts.
 #![tactic(auto)]
 
 mod parts;

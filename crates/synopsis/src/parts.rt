@@ -1,5 +1,5 @@
 // Terms and special slots, copied out of a slice and into one, taken apart and put together.
-// A function that has such a slice is proved by a walk of its MIR, by hand: one for the two that do the same with terms and with special slots.
+// What the two that do the same with terms and with special slots have in common is proved once, over pairs (proofs/Parting.antt).
 ghost use Rattle.std.specs.Prelude.{◌≡◌, ◌<◌, length, set};
 ghost use Rattle.limits.specs.Answers.{laid};
 ghost use Rattle.synopsis.specs.Inner.{term_at, PartsOf, FitTogether, terms_of, special_at, SpecialPartsOf, SpecialsFitTogether, special_slots_of};
