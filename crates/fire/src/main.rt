@@ -1,36 +1,61 @@
 // Fires a profile text from standard input: document 01, "One firing in full".
-ghost use Rattle.std.specs.Prelude.{◌≡◌, ◌≤◌, length};
+#![tactic(auto)]
+
+ghost use Rattle.std.specs.Prelude.{◌≡◌, ◌<◌, ◌≤◌, IfOk, length, take};
+ghost use Rattle.std.specs.Io.KnownBytes.{Consumes, IsAtEnd};
 ghost use Rattle.build.specs.Inner.{KnownProfile};
 
 use build::build_first;
 use decimal::write::write_number;
 use histogram::restore::restore_profile;
-use libc::STDIN_FILENO;
 use printing::{print, print_count};
 use profile::{TextAnswer, read_text};
+use std::io;
+use std::io::{Read, Write};
 
-fn main() {
+fn main(rt: HostRuntime) -> io::Result<()> {
     // One byte more than the longest text has decides for a text of any length (`first_bytes_read` in profile/proofs/Decided.antt):
     // of a longer text so many bytes hold a line that is too long for its numbers, or all the lines that a text may have and a byte more.
     let mut text = [0u8; profile::LONGEST_TEXT + 1];
-    let count = io::read_full(STDIN_FILENO, &mut text);
-    fire(&text[..count]);
+    let count = read_full(&mut rt.stdin(), &mut text)?;
+    fire(&mut rt.stdout(), &text[..count])
 }
 
-fn fire(text: &[u8]) {
+// Reads until the places are full or the input ends, and answers how many bytes it put at their start.
+fn read_full<R: Read>(input: &mut R, places: &mut [u8]) -> io::Result<usize>
+    ensures within { IfOk result (λ count. count ≤ length places.new) }
+    ensures bytes { IfOk result (λ count. Consumes (R.remaining input.old) (R.remaining input.new) (take count places.new)) }
+    ensures end { IfOk result (λ count. count < length places.new → IsAtEnd (R.remaining input.new)) }
+{
+    let mut done = 0;
+    while done < places.len() {
+        let count = input.read(&mut places[done..])?;
+        if count == 0 {
+            return Ok(done);
+        }
+        done += count;
+    }
+    Ok(done)
+}
+
+fn fire(out: &mut impl Write, text: &[u8]) -> io::Result<()> {
     let mut setpoints = [0i16; 512];
     let mut bands = [0u16; 512];
     let read = read_text(text, &mut setpoints, &mut bands);
     if 0 < read.refusal {
-        print_refused(read.refusal);
-        return;
+        return print_refused(out, read.refusal);
     }
     let slots = read.slots;
-    fire_profile(&setpoints[..slots], &bands[..slots], read);
+    fire_profile(out, &setpoints[..slots], &bands[..slots], read)
 }
 
 // Building refuses no profile that was read. The band printed is the common one.
-fn fire_profile(setpoints: &[i16], bands: &[u16], numbers: TextAnswer)
+fn fire_profile(
+    out: &mut impl Write,
+    setpoints: &[i16],
+    bands: &[u16],
+    numbers: TextAnswer,
+) -> io::Result<()>
     requires { KnownProfile setpoints.now bands.now numbers.rest numbers.band numbers.specials }
 {
     let mut nodes = [0u16; 512];
@@ -47,56 +72,76 @@ fn fire_profile(setpoints: &[i16], bands: &[u16], numbers: TextAnswer)
         &mut scratch,
     );
     let count = built.count;
-    print_summary(setpoints.len(), count, numbers.band, built.error);
+    print_summary(out, setpoints.len(), count, numbers.band, built.error)?;
     print_synopsis(
+        out,
         setpoints.len(),
         numbers.rest,
         &nodes[..count],
         &values[..count],
-    );
+    )
 }
 
-fn print_synopsis(slots: usize, rest: i32, nodes: &[u16], values: &[i16])
+fn print_synopsis(
+    out: &mut impl Write,
+    slots: usize,
+    rest: i32,
+    nodes: &[u16],
+    values: &[i16],
+) -> io::Result<()>
     requires { (slots ≤ 512) × (length nodes.now ≡ length values.now) }
 {
-    print_terms(nodes, values);
-    print_slots(slots, rest, nodes, values);
+    print_terms(out, nodes, values)?;
+    print_slots(out, slots, rest, nodes, values)
 }
 
-fn print_refused(refusal: u8) {
-    print(b"refused ");
-    print_count(refusal as usize);
-    print(b"\n");
+fn print_refused(out: &mut impl Write, refusal: u8) -> io::Result<()> {
+    print(out, b"refused ")?;
+    print_count(out, refusal as usize)?;
+    print(out, b"\n")
 }
 
-fn print_summary(slots: usize, terms: usize, band: i32, error: u16) {
-    print_count(slots);
-    print(b" ");
-    print_count(terms);
-    print(b" ");
-    print_hundredths(band);
-    print(b" ");
-    print_hundredths(error as i32);
-    print(b"\n");
+fn print_summary(
+    out: &mut impl Write,
+    slots: usize,
+    terms: usize,
+    band: i32,
+    error: u16,
+) -> io::Result<()> {
+    print_count(out, slots)?;
+    print(out, b" ")?;
+    print_count(out, terms)?;
+    print(out, b" ")?;
+    print_hundredths(out, band)?;
+    print(out, b" ")?;
+    print_hundredths(out, error as i32)?;
+    print(out, b"\n")
 }
 
-fn print_terms(nodes: &[u16], values: &[i16])
+fn print_terms(out: &mut impl Write, nodes: &[u16], values: &[i16]) -> io::Result<()>
     requires { length nodes.now ≡ length values.now }
 {
     let mut i = 0;
     while i < nodes.len() {
         let node = nodes[i];
         let value = values[i];
-        print_line(b"term ", wide(node), value);
+        print_line(out, b"term ", wide(node), value)?;
         i += 1;
     }
+    Ok(())
 }
 
 fn wide(node: u16) -> usize {
     node as usize
 }
 
-fn print_slots(slots: usize, rest: i32, nodes: &[u16], values: &[i16])
+fn print_slots(
+    out: &mut impl Write,
+    slots: usize,
+    rest: i32,
+    nodes: &[u16],
+    values: &[i16],
+) -> io::Result<()>
     requires { (slots ≤ 512) × (length nodes.now ≡ length values.now) }
 {
     let mut restored = [0i16; 512];
@@ -104,22 +149,23 @@ fn print_slots(slots: usize, rest: i32, nodes: &[u16], values: &[i16])
     let mut slot = 0;
     while slot < slots {
         let value = restored[slot];
-        print_line(b"slot ", slot, value);
+        print_line(out, b"slot ", slot, value)?;
         slot += 1;
     }
+    Ok(())
 }
 
-fn print_line(name: &[u8], number: usize, value: i16) {
-    print(name);
-    print_count(number);
-    print(b" ");
-    print_hundredths(value as i32);
-    print(b"\n");
+fn print_line(out: &mut impl Write, name: &[u8], number: usize, value: i16) -> io::Result<()> {
+    print(out, name)?;
+    print_count(out, number)?;
+    print(out, b" ")?;
+    print_hundredths(out, value as i32)?;
+    print(out, b"\n")
 }
 
-fn print_hundredths(number: i32) {
+fn print_hundredths(out: &mut impl Write, number: i32) -> io::Result<()> {
     let mut text = [0u8; 8];
     let written = write_number(number, &mut text);
     let count = written.count;
-    print(&text[..count]);
+    print(out, &text[..count])
 }

@@ -2,55 +2,60 @@
 use crate::records::{check, number, read, there_and_back_with, write_with};
 use crate::texts::show;
 use crate::winners::choose_for;
+use std::io;
+use std::io::Write;
 
 // Document 01's record with a band of 0,10 for slot 1, in 15 bytes, and one behind them.
 const SPECIAL: [u8; 16] = [
     32, 24, 0, 200, 43, 192, 2, 1, 131, 219, 128, 32, 16, 0, 160, 126,
 ];
 
-pub fn run() {
-    lines();
-    wrong_lines();
-    writing();
-    document();
-    malformed();
-    wrong_slots();
-    wrong_bands();
-    greatest_length();
-    checks();
-    choices();
+pub fn run(out: &mut impl Write) -> io::Result<()> {
+    lines(out)?;
+    wrong_lines(out)?;
+    writing(out)?;
+    document(out)?;
+    malformed(out)?;
+    wrong_slots(out)?;
+    wrong_bands(out)?;
+    greatest_length(out)?;
+    checks(out)?;
+    choices(out)
 }
 
 // Own bands: the common one, which makes no special slot, as a value after reading, and others.
-fn lines() {
-    show(b"an own band", b"0\n0,25\n14,10 0,1\n13,90\n");
+fn lines(out: &mut impl Write) -> io::Result<()> {
+    show(out, b"an own band", b"0\n0,25\n14,10 0,1\n13,90\n")?;
     show(
+        out,
         b"the common band as an own one",
         b"0\n0,25\n14,10 0,254\n13,90 0.25\n",
-    );
+    )?;
     show(
+        out,
         b"own bands at their limits",
         b"0\n0,25\n14,10 -0\n13,90 400\n",
-    );
+    )
 }
 
 // In a line 1 goes before 2, and the setpoint's 2 before the band's 3.
-fn wrong_lines() {
-    show(b"nothing after the space", b"0\n0\n1 \n");
-    show(b"two spaces", b"0\n0\n1  1\n");
-    show(b"an own band in the second line", b"0\n0 1\n1\n");
-    show(b"a setpoint beyond it, and no band", b"0\n0\n300 x\n");
-    show(b"both beyond theirs", b"0\n0\n300 500\n");
-    show(b"an own band beyond it", b"0\n0\n1 400,01\n");
+fn wrong_lines(out: &mut impl Write) -> io::Result<()> {
+    show(out, b"nothing after the space", b"0\n0\n1 \n")?;
+    show(out, b"two spaces", b"0\n0\n1  1\n")?;
+    show(out, b"an own band in the second line", b"0\n0 1\n1\n")?;
+    show(out, b"a setpoint beyond it, and no band", b"0\n0\n300 x\n")?;
+    show(out, b"both beyond theirs", b"0\n0\n300 500\n")?;
+    show(out, b"an own band beyond it", b"0\n0\n1 400,01\n")
 }
 
 // In each refusal every later check would fail too, so the order shows.
-fn writing() {
+fn writing(out: &mut impl Write) -> io::Result<()> {
     let nodes = [3u16, 8];
     let values = [1975i16, 0];
     let slots = [1u16, 4];
     let own = [10u16, 10];
     write_with(
+        out,
         4,
         25,
         1400,
@@ -58,49 +63,49 @@ fn writing() {
         &values[..1],
         &slots[..1],
         &own[..1],
-    );
-    write_with(4, 25, 1400, &nodes[..1], &values[..1], &slots, &own);
-    write_with(4, 25, 1400, &nodes, &values, &slots, &own);
-    write_with(5, 25, 1400, &nodes, &values, &slots, &own);
+    )?;
+    write_with(out, 4, 25, 1400, &nodes[..1], &values[..1], &slots, &own)?;
+    write_with(out, 4, 25, 1400, &nodes, &values, &slots, &own)?;
+    write_with(out, 5, 25, 1400, &nodes, &values, &slots, &own)
 }
 
-fn document() {
+fn document(out: &mut impl Write) -> io::Result<()> {
     let bytes = SPECIAL;
-    read(b"a record of version 2", &bytes[..15]);
-    read(b"it with a byte behind it", &bytes);
-    read(b"it without its special slot", &bytes[..12]);
+    read(out, b"a record of version 2", &bytes[..15])?;
+    read(out, b"it with a byte behind it", &bytes)?;
+    read(out, b"it without its special slot", &bytes[..12])
 }
 
-fn malformed() {
+fn malformed(out: &mut impl Write) -> io::Result<()> {
     let three = [
         48u8, 24, 0, 200, 43, 192, 2, 1, 131, 219, 128, 32, 16, 0, 160,
     ];
-    read(b"version 3", &three);
+    read(out, b"version 3", &three)?;
     let none = [32u8, 24, 0, 200, 43, 192, 2, 1, 131, 219, 128, 0];
-    read(b"version 2 with no special slot", &none);
-    read(b"it without its second count", &none[..11]);
+    read(out, b"version 2 with no special slot", &none)?;
+    read(out, b"it without its second count", &none[..11])
 }
 
-fn wrong_slots() {
+fn wrong_slots(out: &mut impl Write) -> io::Result<()> {
     let last = [32u8, 24, 0, 200, 43, 192, 0, 0, 128, 192, 2, 128];
-    read(b"the last slot as a special one", &last);
+    read(out, b"the last slot as a special one", &last)?;
     let past = [32u8, 24, 0, 200, 43, 192, 0, 0, 129, 0, 2, 128];
-    read(b"a special slot past the last", &past);
+    read(out, b"a special slot past the last", &past)?;
     let twice = [32u8, 24, 0, 200, 43, 192, 0, 1, 0, 64, 2, 128, 32, 1, 96];
-    read(b"a special slot twice", &twice);
+    read(out, b"a special slot twice", &twice)?;
     let two = [32u8, 24, 0, 200, 43, 192, 0, 1, 0, 0, 2, 128, 64, 1, 96];
-    read(b"two special slots into one place", &two);
+    read(out, b"two special slots into one place", &two)
 }
 
-fn wrong_bands() {
+fn wrong_bands(out: &mut impl Write) -> io::Result<()> {
     let common = [32u8, 24, 0, 200, 43, 192, 0, 0, 128, 64, 6, 64];
-    read(b"the common band as an own one", &common);
+    read(out, b"the common band as an own one", &common)?;
     let above = [32u8, 24, 0, 200, 43, 192, 0, 0, 128, 103, 16, 64];
-    read(b"an own band beyond the limit", &above);
+    read(out, b"an own band beyond the limit", &above)
 }
 
 // The largest record that reads.
-fn greatest_length() {
+fn greatest_length(out: &mut impl Write) -> io::Result<()> {
     let mut nodes = [0u16; 1023];
     let values = [7i16; 1023];
     number(1, &mut nodes);
@@ -108,38 +113,41 @@ fn greatest_length() {
     let own = [5u16; 512];
     number(0, &mut slots);
     let mut bytes = [255u8; 4933];
-    there_and_back_with(&nodes, &values, &slots, &own, &mut bytes);
+    there_and_back_with(out, &nodes, &values, &slots, &own, &mut bytes)
 }
 
 // The check goes by the record's bands.
-fn checks() {
+fn checks(out: &mut impl Write) -> io::Result<()> {
     let bytes = SPECIAL;
     let kept = [1410i16, 1390, 2000, 1950];
-    check(b"slot 1 within its own band", &kept, &bytes[..15]);
+    check(out, b"slot 1 within its own band", &kept, &bytes[..15])?;
     let beyond = [1410i16, 1389, 2000, 1950];
-    check(b"slot 1 beyond its own band", &beyond, &bytes[..15]);
+    check(out, b"slot 1 beyond its own band", &beyond, &bytes[..15])
 }
 
 // A candidate has the text's special slots.
-fn choices() {
+fn choices(out: &mut impl Write) -> io::Result<()> {
     let special = SPECIAL;
     let plain = [16u8, 24, 0, 200, 43, 192, 2, 1, 131, 219, 128];
     choose_for(
+        out,
         b"version 1 and version 2, for a text with that special slot",
         b"14,00\n0,25\n14,10\n13,90 0,10\n20,00\n19,50\n",
         &plain,
         &special,
-    );
+    )?;
     choose_for(
+        out,
         b"version 2 and version 1, for a text without",
         b"14,00\n0,25\n14,10\n13,90\n20,00\n19,50\n",
         &special,
         &plain,
-    );
+    )?;
     choose_for(
+        out,
         b"version 2 and version 1, for a text with another own band",
         b"14,00\n0,25\n14,10\n13,90 0,11\n20,00\n19,50\n",
         &special,
         &plain,
-    );
+    )
 }

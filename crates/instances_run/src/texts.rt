@@ -3,95 +3,98 @@ use printing::{
     print, print_count_after, print_number_after, print_refusal, print_setpoint, print_special,
 };
 use profile::{TextAnswer, read_profile};
+use std::io;
+use std::io::Write;
 
-pub fn run() {
-    document();
-    limits();
-    malformed();
-    lines();
-    short();
+pub fn run(out: &mut impl Write) -> io::Result<()> {
+    document(out)?;
+    limits(out)?;
+    malformed(out)?;
+    lines(out)?;
+    short(out)
 }
 
 // Document 01's instances.
-fn document() {
-    show(b"no bytes", b"");
-    show(b"two good lines", b"14,00\n0,25\n");
+fn document(out: &mut impl Write) -> io::Result<()> {
+    show(out, b"no bytes", b"")?;
+    show(out, b"two good lines", b"14,00\n0,25\n")?;
     show(
+        out,
         b"document 01's firing",
         b"14,00\n0,25\n14,10\n13,90\n20,00\n19,50\n",
-    );
-    show(b"a setpoint at the limit", b"0\n0\n200,00\n");
-    show(b"a setpoint beyond it", b"0\n0\n200,01\n");
+    )?;
+    show(out, b"a setpoint at the limit", b"0\n0\n200,00\n")?;
+    show(out, b"a setpoint beyond it", b"0\n0\n200,01\n")
 }
 
 // Rest values and bands beyond their limits.
-fn limits() {
-    show(b"a rest value beyond it", b"999,01\n");
-    show(b"a negative band", b"0\n-0,01\n0\n");
-    show(b"a band beyond 400,00", b"0\n400,01\n0\n");
+fn limits(out: &mut impl Write) -> io::Result<()> {
+    show(out, b"a rest value beyond it", b"999,01\n")?;
+    show(out, b"a negative band", b"0\n-0,01\n0\n")?;
+    show(out, b"a band beyond 400,00", b"0\n400,01\n0\n")
 }
 
-fn malformed() {
-    show(b"the last line unended", b"0\n0\n999");
-    show(b"an empty line", b"0\n\n0\n");
-    show(b"a setpoint that is no number", b"0\n0\n0\n1.450\n");
+fn malformed(out: &mut impl Write) -> io::Result<()> {
+    show(out, b"the last line unended", b"0\n0\n999")?;
+    show(out, b"an empty line", b"0\n\n0\n")?;
+    show(out, b"a setpoint that is no number", b"0\n0\n0\n1.450\n")
 }
 
 // What it is, then the refusal's number, the rest value, the band, the numbers of slots and of special slots and the destinations' first two places.
-pub fn show(what: &[u8], text: &[u8]) {
+pub fn show(out: &mut impl Write, what: &[u8], text: &[u8]) -> io::Result<()> {
     let mut setpoints = [7i16; 512];
     let mut specials = [7u16; 512];
     let mut own = [7u16; 512];
     let answer = read_profile(text, &mut setpoints, &mut specials, &mut own);
-    print(what);
-    print_answer(answer);
-    print_setpoint(setpoints[0]);
-    print_setpoint(setpoints[1]);
-    print_special(specials[0], own[0]);
-    print_special(specials[1], own[1]);
-    print(b"\n");
+    print(out, what)?;
+    print_answer(out, answer)?;
+    print_setpoint(out, setpoints[0])?;
+    print_setpoint(out, setpoints[1])?;
+    print_special(out, specials[0], own[0])?;
+    print_special(out, specials[1], own[1])?;
+    print(out, b"\n")
 }
 
-fn print_answer(answer: TextAnswer) {
-    print_refusal(answer.refusal);
-    print_number_after(b" ", answer.rest);
-    print_number_after(b" ", answer.band);
-    print_count_after(b" ", answer.slots);
-    print_count_after(b" ", answer.specials);
+fn print_answer(out: &mut impl Write, answer: TextAnswer) -> io::Result<()> {
+    print_refusal(out, answer.refusal)?;
+    print_number_after(out, b" ", answer.rest)?;
+    print_number_after(out, b" ", answer.band)?;
+    print_count_after(out, b" ", answer.slots)?;
+    print_count_after(out, b" ", answer.specials)
 }
 
 // A destination for one setpoint fewer than there are, and one for one special slot fewer.
-fn short() {
-    into_one_place(b"two setpoints into one place", b"0\n0\n1\n2\n");
-    into_one_place(b"one setpoint into it", b"0\n0\n1 2\n");
+fn short(out: &mut impl Write) -> io::Result<()> {
+    into_one_place(out, b"two setpoints into one place", b"0\n0\n1\n2\n")?;
+    into_one_place(out, b"one setpoint into it", b"0\n0\n1 2\n")
 }
 
 // What it is, then the refusal's number, the one place for a setpoint, and none for a special slot.
-fn into_one_place(what: &[u8], text: &[u8]) {
+fn into_one_place(out: &mut impl Write, what: &[u8], text: &[u8]) -> io::Result<()> {
     let mut setpoints = [7i16; 1];
     let mut specials = [7u16; 1];
     let mut own = [7u16; 1];
     let answer = read_profile(text, &mut setpoints, &mut specials[..0], &mut own[..0]);
-    print(what);
-    print_refusal(answer.refusal);
-    print_setpoint(setpoints[0]);
-    print_special(specials[0], own[0]);
-    print(b"\n");
+    print(out, what)?;
+    print_refusal(out, answer.refusal)?;
+    print_setpoint(out, setpoints[0])?;
+    print_special(out, specials[0], own[0])?;
+    print(out, b"\n")
 }
 
 // Texts of lines of one digit.
-fn lines() {
+fn lines(out: &mut impl Write) -> io::Result<()> {
     let mut just_enough = [b'0'; 1028];
-    show_lines(b"512 slots", &mut just_enough);
+    show_lines(out, b"512 slots", &mut just_enough)?;
     let mut a_line_more = [b'0'; 1030];
-    show_lines(b"513 slots", &mut a_line_more);
+    show_lines(out, b"513 slots", &mut a_line_more)?;
     let mut a_byte_more = [b'0'; 1029];
-    show_lines(b"512 slots and a byte", &mut a_byte_more);
+    show_lines(out, b"512 slots and a byte", &mut a_byte_more)
 }
 
-fn show_lines(what: &[u8], text: &mut [u8]) {
+fn show_lines(out: &mut impl Write, what: &[u8], text: &mut [u8]) -> io::Result<()> {
     end_lines(text);
-    show(what, text);
+    show(out, what, text)
 }
 
 // Ends a line after every other byte.

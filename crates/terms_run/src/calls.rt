@@ -1,5 +1,5 @@
 // The library's calls on slices of terms and of special slots, each lent the first places of an array.
-// A function that lends such a slice is proved by a walk of its MIR, by hand; so there is one for each call, and it does nothing else.
+// There is one for each call, and it does nothing else.
 ghost use Rattle.std.specs.Prelude.{◌≤◌};
 
 use bands::SpecialSlot;

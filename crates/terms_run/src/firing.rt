@@ -8,8 +8,10 @@ use histogram::Term;
 use printing::{
     print, print_bytes, print_count_after, print_refusal, print_setpoint, print_setpoints,
 };
+use std::io;
+use std::io::Write;
 
-pub fn run() {
+pub fn run(out: &mut impl Write) -> io::Result<()> {
     let setpoints = [1410i16, 1390, 2000, 1950];
     let mut scratch = [9i16; 12288];
     let built = build(
@@ -23,56 +25,56 @@ pub fn run() {
         &mut scratch,
     );
     let terms = built.terms;
-    print(b"the firing is built");
-    print_built(built.answer);
-    end_with_terms(terms);
-    write(terms);
+    print(out, b"the firing is built")?;
+    print_built(out, built.answer)?;
+    end_with_terms(out, terms)?;
+    write(out, terms)
 }
 
 // The record of its one term, into as many bytes as it has.
-fn write(terms: [Term; 1100]) {
+fn write(out: &mut impl Write, terms: [Term; 1100]) -> io::Result<()> {
     let mut bytes = [255u8; 11];
     let answer = write_record(4, 25, 1400, terms, 1, marked_specials(), 0, &mut bytes);
-    print(b"its record");
-    print_written(answer);
-    print_bytes(&bytes);
-    print(b"\n");
-    read(&bytes);
+    print(out, b"its record")?;
+    print_written(out, answer)?;
+    print_bytes(out, &bytes)?;
+    print(out, b"\n")?;
+    read(out, &bytes)
 }
 
-fn read(bytes: &[u8]) {
+fn read(out: &mut impl Write, bytes: &[u8]) -> io::Result<()> {
     let read = read_record(bytes, marked_places(), 4, marked_specials(), 0);
     let terms = read.terms;
     let specials = read.specials;
-    print(b"read back");
-    print_header(read.header);
-    print_terms(terms);
-    end_with_specials(specials);
-    restore(terms);
+    print(out, b"read back")?;
+    print_header(out, read.header)?;
+    print_terms(out, terms)?;
+    end_with_specials(out, specials)?;
+    restore(out, terms)
 }
 
-fn restore(terms: [Term; 1100]) {
-    slot(terms, 0);
-    slot(terms, 1);
-    slot(terms, 2);
-    slot(terms, 3);
-    profile(terms);
+fn restore(out: &mut impl Write, terms: [Term; 1100]) -> io::Result<()> {
+    slot(out, terms, 0)?;
+    slot(out, terms, 1)?;
+    slot(out, terms, 2)?;
+    slot(out, terms, 3)?;
+    profile(out, terms)
 }
 
-fn slot(terms: [Term; 1100], asked: usize) {
+fn slot(out: &mut impl Write, terms: [Term; 1100], asked: usize) -> io::Result<()> {
     let answer = restore_slot(4, 1400, terms, 1, asked);
-    print_count_after(b"its slot ", asked);
-    print_refusal(answer.refusal);
-    print_setpoint(answer.setpoint);
-    print(b"\n");
+    print_count_after(out, b"its slot ", asked)?;
+    print_refusal(out, answer.refusal)?;
+    print_setpoint(out, answer.setpoint)?;
+    print(out, b"\n")
 }
 
 // All slots, with a place to spare.
-fn profile(terms: [Term; 1100]) {
+fn profile(out: &mut impl Write, terms: [Term; 1100]) -> io::Result<()> {
     let mut setpoints = [7i16; 5];
     let refusal = restore_profile(4, 1400, terms, 1, &mut setpoints);
-    print(b"its profile");
-    print_refusal(refusal);
-    print_setpoints(&setpoints);
-    print(b"\n");
+    print(out, b"its profile")?;
+    print_refusal(out, refusal)?;
+    print_setpoints(out, &setpoints)?;
+    print(out, b"\n")
 }

@@ -1,5 +1,7 @@
 // Calls the library on slices of terms and of special slots, and prints each call with its answer and what it leaves in lent memory:
 // document 01's firing from building to restoring, the same with a special slot from its text on, then the refusals of each call.
+#![tactic(auto)]
+
 mod building;
 mod calls;
 mod firing;
@@ -19,75 +21,78 @@ use printing::{
 use profile::TextAnswer;
 use record_read::HeaderAnswer;
 use record_write::WriteAnswer;
+use std::io;
+use std::io::Write;
 
-fn main() {
-    firing::run();
-    special_firing::run();
-    building::run();
-    writing::run();
-    reading::run();
-    restoring::run();
-    typing::run();
+fn main(rt: HostRuntime) -> io::Result<()> {
+    let mut out = rt.stdout();
+    firing::run(&mut out)?;
+    special_firing::run(&mut out)?;
+    building::run(&mut out)?;
+    writing::run(&mut out)?;
+    reading::run(&mut out)?;
+    restoring::run(&mut out)?;
+    typing::run(&mut out)
 }
 
 // Prints the refusal's number, the count and the greatest error.
-fn print_built(answer: BuildAnswer) {
-    print_refusal(answer.refusal);
-    print_count_after(b" ", answer.count);
-    print_number_after(b" ", answer.error as i32);
+fn print_built(out: &mut impl Write, answer: BuildAnswer) -> io::Result<()> {
+    print_refusal(out, answer.refusal)?;
+    print_count_after(out, b" ", answer.count)?;
+    print_number_after(out, b" ", answer.error as i32)
 }
 
 // Prints the refusal's number and the count of bytes.
-fn print_written(answer: WriteAnswer) {
-    print_refusal(answer.refusal);
-    print_count_after(b" ", answer.count);
+fn print_written(out: &mut impl Write, answer: WriteAnswer) -> io::Result<()> {
+    print_refusal(out, answer.refusal)?;
+    print_count_after(out, b" ", answer.count)
 }
 
 // Prints the refusal's number, the slots, the band, the rest value and the counts of terms and of special slots.
-fn print_header(header: HeaderAnswer) {
-    print_refusal(header.refusal);
-    print_count_after(b" ", header.slots);
-    print_number_after(b" ", header.band);
-    print_number_after(b" ", header.rest);
-    print_count_after(b" ", header.count);
-    print_count_after(b" ", header.specials);
+fn print_header(out: &mut impl Write, header: HeaderAnswer) -> io::Result<()> {
+    print_refusal(out, header.refusal)?;
+    print_count_after(out, b" ", header.slots)?;
+    print_number_after(out, b" ", header.band)?;
+    print_number_after(out, b" ", header.rest)?;
+    print_count_after(out, b" ", header.count)?;
+    print_count_after(out, b" ", header.specials)
 }
 
 // Prints the refusal's number, the rest value, the band and the counts of slots and of special slots.
-fn print_typed(answer: TextAnswer) {
-    print_refusal(answer.refusal);
-    print_number_after(b" ", answer.rest);
-    print_number_after(b" ", answer.band);
-    print_count_after(b" ", answer.slots);
-    print_count_after(b" ", answer.specials);
+fn print_typed(out: &mut impl Write, answer: TextAnswer) -> io::Result<()> {
+    print_refusal(out, answer.refusal)?;
+    print_number_after(out, b" ", answer.rest)?;
+    print_number_after(out, b" ", answer.band)?;
+    print_count_after(out, b" ", answer.slots)?;
+    print_count_after(out, b" ", answer.specials)
 }
 
 // Prints the first four places of a destination.
-fn print_terms(terms: [Term; 1100]) {
-    print_place(terms[0]);
-    print_place(terms[1]);
-    print_place(terms[2]);
-    print_place(terms[3]);
+fn print_terms(out: &mut impl Write, terms: [Term; 1100]) -> io::Result<()> {
+    print_place(out, terms[0])?;
+    print_place(out, terms[1])?;
+    print_place(out, terms[2])?;
+    print_place(out, terms[3])
 }
 
 // Ends a line with them.
-fn end_with_terms(terms: [Term; 1100]) {
-    print_terms(terms);
-    print(b"\n");
+fn end_with_terms(out: &mut impl Write, terms: [Term; 1100]) -> io::Result<()> {
+    print_terms(out, terms)?;
+    print(out, b"\n")
 }
 
-fn print_place(term: Term) {
-    print_term(term.node, term.value);
+fn print_place(out: &mut impl Write, term: Term) -> io::Result<()> {
+    print_term(out, term.node, term.value)
 }
 
 // Ends a line with the first two places of a destination for special slots.
-fn end_with_specials(specials: [SpecialSlot; 600]) {
-    print(b" and");
-    print_special_place(specials[0]);
-    print_special_place(specials[1]);
-    print(b"\n");
+fn end_with_specials(out: &mut impl Write, specials: [SpecialSlot; 600]) -> io::Result<()> {
+    print(out, b" and")?;
+    print_special_place(out, specials[0])?;
+    print_special_place(out, specials[1])?;
+    print(out, b"\n")
 }
 
-fn print_special_place(special: SpecialSlot) {
-    print_special(special.slot, special.band);
+fn print_special_place(out: &mut impl Write, special: SpecialSlot) -> io::Result<()> {
+    print_special(out, special.slot, special.band)
 }
