@@ -87,6 +87,7 @@ fn read_unsigned(bytes: &[u8]) -> Part
 }
 
 // The first digits of some bytes, three at the most.
+#[inline(always)]
 fn read_units(bytes: &[u8]) -> Part
     ensures { UnitsRead bytes.now result.count result.number }
 {
