@@ -1,21 +1,33 @@
 // What the programs print: bytes as they are, counts, whole numbers with their sign, and lists of them.
-// Each function takes the writer that it prints to, and answers as std does: a write can fail.
+// Each function takes the writer that it prints to, and answers as std does: a write can fail. Of one that did not, its promise says which bytes it added.
 #![tactic(auto)]
+
+ghost use Rattle.std.specs.Prelude.{◌≡◌, ◌++◌, ◌↔◌, All, IsTrue, OnOk, codes};
+ghost use Rattle.std.specs.List.{flat_map};
+ghost use Rattle.std.specs.Fmt.{decimal, signed_decimal};
+ghost use Rattle.std.specs.Io.KnownBytes.{Appends};
+ghost use Rattle.printing.specs.Printed.{setpoint_text, term_text, special_text, byte_text};
 
 use std::io;
 use std::io::Write;
 
 // Prints bytes as they are.
-pub fn print(out: &mut impl Write, text: &[u8]) -> io::Result<()> {
+pub fn print<W: Write>(out: &mut W, text: &[u8]) -> io::Result<()>
+    ensures { OnOk result (Appends (W.contents out.old) (W.contents out.new) text.now) }
+{
     out.write_all(text)
 }
 
-pub fn print_count(out: &mut impl Write, count: usize) -> io::Result<()> {
+pub fn print_count<W: Write>(out: &mut W, count: usize) -> io::Result<()>
+    ensures { OnOk result (Appends (W.contents out.old) (W.contents out.new) (decimal count)) }
+{
     write!(out, "{}", count)
 }
 
 // Prints a whole number with its sign.
-fn print_number(out: &mut impl Write, number: i32) -> io::Result<()> {
+fn print_number<W: Write>(out: &mut W, number: i32) -> io::Result<()>
+    ensures { OnOk result (Appends (W.contents out.old) (W.contents out.new) (signed_decimal number)) }
+{
     if number < 0 {
         print(out, b"-")?;
     }
@@ -23,41 +35,55 @@ fn print_number(out: &mut impl Write, number: i32) -> io::Result<()> {
 }
 
 // Prints the value of a term, or a setpoint.
-fn print_value(out: &mut impl Write, value: i16) -> io::Result<()> {
+fn print_value<W: Write>(out: &mut W, value: i16) -> io::Result<()>
+    ensures { OnOk result (Appends (W.contents out.old) (W.contents out.new) (signed_decimal value)) }
+{
     print_number(out, value as i32)
 }
 
 // Prints a call and what it is given.
-pub fn print_call(out: &mut impl Write, call: &[u8], given: &[u8]) -> io::Result<()> {
+pub fn print_call<W: Write>(out: &mut W, call: &[u8], given: &[u8]) -> io::Result<()>
+    ensures { OnOk result (Appends (W.contents out.old) (W.contents out.new) (call.now ++ given.now)) }
+{
     print(out, call)?;
     print(out, given)
 }
 
 // Prints a count after what it is.
-pub fn print_count_after(out: &mut impl Write, what: &[u8], count: usize) -> io::Result<()> {
+pub fn print_count_after<W: Write>(out: &mut W, what: &[u8], count: usize) -> io::Result<()>
+    ensures { OnOk result (Appends (W.contents out.old) (W.contents out.new) (what.now ++ decimal count)) }
+{
     print(out, what)?;
     print_count(out, count)
 }
 
 // Prints a number after what it is.
-pub fn print_number_after(out: &mut impl Write, what: &[u8], number: i32) -> io::Result<()> {
+pub fn print_number_after<W: Write>(out: &mut W, what: &[u8], number: i32) -> io::Result<()>
+    ensures { OnOk result (Appends (W.contents out.old) (W.contents out.new) (what.now ++ signed_decimal number)) }
+{
     print(out, what)?;
     print_number(out, number)
 }
 
 // Prints the refusal's number, with which an answer begins.
-pub fn print_refusal(out: &mut impl Write, refusal: u8) -> io::Result<()> {
+pub fn print_refusal<W: Write>(out: &mut W, refusal: u8) -> io::Result<()>
+    ensures { OnOk result (Appends (W.contents out.old) (W.contents out.new) (codes ": " ++ decimal refusal)) }
+{
     print_count_after(out, b": ", refusal as usize)
 }
 
 // Prints a setpoint after a space.
-pub fn print_setpoint(out: &mut impl Write, setpoint: i16) -> io::Result<()> {
+pub fn print_setpoint<W: Write>(out: &mut W, setpoint: i16) -> io::Result<()>
+    ensures { OnOk result (Appends (W.contents out.old) (W.contents out.new) (setpoint_text setpoint)) }
+{
     print(out, b" ")?;
     print_value(out, setpoint)
 }
 
 // Prints setpoints, each after a space.
-pub fn print_setpoints(out: &mut impl Write, setpoints: &[i16]) -> io::Result<()> {
+pub fn print_setpoints<W: Write>(out: &mut W, setpoints: &[i16]) -> io::Result<()>
+    ensures { OnOk result (Appends (W.contents out.old) (W.contents out.new) (flat_map setpoint_text setpoints.now)) }
+{
     let mut slot = 0;
     while slot < setpoints.len() {
         let setpoint = setpoints[slot];
@@ -68,20 +94,27 @@ pub fn print_setpoints(out: &mut impl Write, setpoints: &[i16]) -> io::Result<()
 }
 
 // Prints a term after a space, as node:value.
-pub fn print_term(out: &mut impl Write, node: u16, value: i16) -> io::Result<()> {
+pub fn print_term<W: Write>(out: &mut W, node: u16, value: i16) -> io::Result<()>
+    ensures { OnOk result (Appends (W.contents out.old) (W.contents out.new) (term_text node value)) }
+{
     print_number_after(out, b" ", node as i32)?;
     print(out, b":")?;
     print_value(out, value)
 }
 
 // Prints a special slot after a space, as slot:band.
-pub fn print_special(out: &mut impl Write, slot: u16, band: u16) -> io::Result<()> {
+pub fn print_special<W: Write>(out: &mut W, slot: u16, band: u16) -> io::Result<()>
+    ensures { OnOk result (Appends (W.contents out.old) (W.contents out.new) (special_text slot band)) }
+{
     print_number_after(out, b" ", slot as i32)?;
     print_number_after(out, b":", band as i32)
 }
 
 // Prints whether lent numbers, which held the same in every place, hold it still.
-pub fn print_unchanged(out: &mut impl Write, numbers: &[i16], held: i16) -> io::Result<()> {
+pub fn print_unchanged<W: Write>(out: &mut W, numbers: &[i16], held: i16) -> io::Result<()>
+    ensures same { All (λ number. number ≡ held) numbers.now → OnOk result (Appends (W.contents out.old) (W.contents out.new) (codes " as it was")) }
+    ensures changed { ¬ All (λ number. number ≡ held) numbers.now → OnOk result (Appends (W.contents out.old) (W.contents out.new) (codes " changed")) }
+{
     if are_all(numbers, held) {
         print(out, b" as it was")
     } else {
@@ -90,7 +123,9 @@ pub fn print_unchanged(out: &mut impl Write, numbers: &[i16], held: i16) -> io::
 }
 
 // Whether every number is this one.
-fn are_all(numbers: &[i16], number: i16) -> bool {
+fn are_all(numbers: &[i16], number: i16) -> bool
+    ensures { IsTrue result ↔ All (λ found. found ≡ number) numbers.now }
+{
     let mut i = 0;
     while i < numbers.len() {
         let found = numbers[i];
@@ -103,7 +138,9 @@ fn are_all(numbers: &[i16], number: i16) -> bool {
 }
 
 // Prints bytes in hexadecimal, each after a space.
-pub fn print_bytes(out: &mut impl Write, bytes: &[u8]) -> io::Result<()> {
+pub fn print_bytes<W: Write>(out: &mut W, bytes: &[u8]) -> io::Result<()>
+    ensures { OnOk result (Appends (W.contents out.old) (W.contents out.new) (flat_map byte_text bytes.now)) }
+{
     let mut i = 0;
     while i < bytes.len() {
         print(out, b" ")?;
@@ -113,6 +150,8 @@ pub fn print_bytes(out: &mut impl Write, bytes: &[u8]) -> io::Result<()> {
     Ok(())
 }
 
-fn wide(byte: u8) -> u64 {
+fn wide(byte: u8) -> u64
+    ensures { result ≡ byte }
+{
     byte as u64
 }
