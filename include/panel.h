@@ -67,7 +67,7 @@ extern "C" {
 /* A record made elsewhere that is not refused has at most 1,023 terms and 512 special slots: 4,933 bytes. */
 #define PANEL_MOST_RECORD_BYTES PANEL_RECORD_BYTES(1023, PANEL_MOST_SLOTS)
 
-/* The panel's own records have at most 512 terms and 512 special slots: 3,273 bytes are never too few (`longest-fits`,
+/* The panel's own records have at most 512 terms and 512 special slots: 3,273 bytes are never too few (`longest_fits`,
  * crates/panel/proofs/Longest.antt). */
 #define PANEL_MOST_BUILT_BYTES PANEL_RECORD_BYTES(PANEL_MOST_SLOTS, PANEL_MOST_SLOTS)
 
