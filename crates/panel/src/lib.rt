@@ -1,4 +1,5 @@
 // The library's face for C: numbers and byte slices alone. Every call answers with one number of four 16-bit fields.
+// `panel_c` has C call each function of it under its own name.
 #![tactic(auto)]
 
 ghost use Rattle.std.specs.Prelude.{◌≡◌, nat_abs};
@@ -16,8 +17,7 @@ use record_check::{check_record, read_slot};
 use record_write::write_for_bands;
 
 // A profile text to the record of its first best synopsis: bytes written, terms, greatest error.
-#[unsafe(no_mangle)]
-pub extern "C" fn panel_text_to_record(text: &[u8], destination: &mut [u8]) -> u64
+pub fn panel_text_to_record(text: &[u8], destination: &mut [u8]) -> u64
     ensures { TextToRecord text.now destination.old destination.new result }
 {
     let mut setpoints = [0i16; 512];
@@ -71,8 +71,7 @@ fn build_record(
 }
 
 // One slot of a record: the setpoint in two's complement.
-#[unsafe(no_mangle)]
-pub extern "C" fn panel_record_slot(bytes: &[u8], slot: u64) -> u64
+pub fn panel_record_slot(bytes: &[u8], slot: u64) -> u64
     ensures { result ≡ slot_result bytes.now slot }
 {
     let answer = read_slot(bytes, slot as usize);
@@ -85,8 +84,7 @@ pub extern "C" fn panel_record_slot(bytes: &[u8], slot: u64) -> u64
 }
 
 // A record against a text: whether the record's bands are kept, the greatest error, the lowest slot whose error exceeds its band.
-#[unsafe(no_mangle)]
-pub extern "C" fn panel_record_against_text(bytes: &[u8], text: &[u8]) -> u64
+pub fn panel_record_against_text(bytes: &[u8], text: &[u8]) -> u64
     ensures { result ≡ against_text_result bytes.now text.now }
 {
     let mut setpoints = [0i16; 512];
@@ -106,8 +104,7 @@ pub extern "C" fn panel_record_against_text(bytes: &[u8], text: &[u8]) -> u64
 }
 
 // The least band of a text without special slots for a number of terms.
-#[unsafe(no_mangle)]
-pub extern "C" fn panel_least_band_of_text(text: &[u8], budget: u64) -> u64
+pub fn panel_least_band_of_text(text: &[u8], budget: u64) -> u64
     ensures { LeastBandOfText text.now budget result }
 {
     let mut setpoints = [0i16; 512];
@@ -129,8 +126,7 @@ pub extern "C" fn panel_least_band_of_text(text: &[u8], budget: u64) -> u64
 }
 
 // The better of two offers for a text: which buffer's record wins, 0 for none, and how many bytes it has. Nothing is refused.
-#[unsafe(no_mangle)]
-pub extern "C" fn panel_better_offer(text: &[u8], first: &[u8], second: &[u8]) -> u64
+pub fn panel_better_offer(text: &[u8], first: &[u8], second: &[u8]) -> u64
     ensures { result ≡ better_offer_result text.now first.now second.now }
 {
     let winner = choose_offer(text, first, second);
@@ -142,8 +138,7 @@ pub extern "C" fn panel_better_offer(text: &[u8], first: &[u8], second: &[u8]) -
 }
 
 // The flow of a step of the air duct, by the factory's table.
-#[unsafe(no_mangle)]
-pub extern "C" fn panel_flow_of_step(step: u64) -> u64
+pub fn panel_flow_of_step(step: u64) -> u64
     ensures { result ≡ flow_result step }
 {
     let answer = flow_of_step(step);
@@ -151,8 +146,7 @@ pub extern "C" fn panel_flow_of_step(step: u64) -> u64
 }
 
 // The lowest step of the air duct whose flow reaches a given one.
-#[unsafe(no_mangle)]
-pub extern "C" fn panel_step_for_flow(flow: u64) -> u64
+pub fn panel_step_for_flow(flow: u64) -> u64
     ensures { result ≡ step_result flow }
 {
     let answer = step_for_flow(flow);

@@ -3,7 +3,7 @@ use mathlib.Core.Path.{sym}
 use native.Mathlib.Omega.{arith}
 use lib.Seq.{length-take-le}
 use mir.Facts.{to_z-of_z}
-use Rattle.fire.proofs.Known.{rest_fits, band_fits, buildable, nodes_enough, values_enough}
+use Rattle.panel.proofs.Records.{rest_fits, band_fits, buildable, nodes_enough, values_enough}
 use Rattle.fire.proofs.fire_profile.Goals as goal
 
 pub build_first-built-requires : goal.build_first-built-requires
