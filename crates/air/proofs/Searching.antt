@@ -1,51 +1,37 @@
--- The search by halving, in any table: its invariant (`Between`) says that the flow of `below` does not reach the given one and that of `reaching` does.
-use mathlib.Core.Path.{◌≡◌, subst}
-use mathlib.Core.List.{List}
-use Prim.Native.Nat.{ℕ, ◌+◌, ◌-◌, ◌/◌, ◌≤◌, ◌<◌}
+-- The search in any table: its flows never fall, so those that do not reach the given one come first, and the step after them is the lowest that reaches it.
+use Rattle.std.proofs.Common.{◌≡◌, ℕ, ◌-◌, ◌≤◌, ◌<◌, Bool, true, false, ltb, List, length, refl, subst, arith, ltb-true, ltb-false}
+use Rattle.std.specs.List.Sorted.{IsPartitionedBy, IsPartitionPoint}
+use Rattle.std.proofs.lemmas.List.Sorted.{IsNonDecreasingBy-from_default, IsPartitionedBy-ltb}
 use native.Mathlib.Nat.{add-sub_of_le}
-use native.Mathlib.Omega.{arith}
 use Rattle.air.specs.Flows.{lowest_step}
 use Rattle.air.specs.Inner.{entry_of, Searchable}
 use Rattle.air.proofs.LowestStep.{lowest_only, rises}
 
-module _ (flows : List ℕ) (flow : ℕ) where
-  pub record Between (below reaching : ℕ) : Type 0 where
-    pub apart : below < reaching
-    pub in_table : reaching ≤ 400
-    pub not_yet : entry_of flows below < flow
-    pub reached : flow ≤ entry_of flows reaching
+-- whether an entry does not reach a flow
+abbrev pub is_short : ℕ → ℕ → Bool
+is_short flow entry = ltb entry flow
 
-  -- step 0 reaches the flow 0
-  pub none_needed : flow ≡ 0 → 0 ≡ lowest_step (entry_of flows) flow
-  none_needed is = lowest_only (entry_of flows) flow 0 (record { is_a_step = omega arith; reaches = omega (arith, is); no_lower = λ lower below. absurd (omega arith) })
+module _ (flows : List ℕ) (flow : ℕ) (search : Searchable flows flow) where
+  never_falls : (lower step : ℕ) → lower ≤ step → step < length flows → entry_of flows lower ≤ entry_of flows step
+  never_falls lower step before inside =
+      subst (λ (at : ℕ). entry_of flows lower ≤ entry_of flows at) (add-sub_of_le before)
+      (rises search.table.is_table lower (step - lower) (omega (arith, search.table.each_step)))
 
-  pub begun : Searchable flows flow → 0 < flow → Between 0 400
-  begun search some = record {
-    apart = omega arith;
-    in_table = omega arith;
-    not_yet = omega (arith, search.table.is_table.starts);
-    reached = omega (arith, search.table.is_table.ends, search.within);
-  }
+  pub short_first : IsPartitionedBy (is_short flow) flows
+  short_first = IsPartitionedBy-ltb (λ entry. entry) flows flow (IsNonDecreasingBy-from_default (λ entry. entry) flows 0 never_falls)
 
-  module _ (below reaching : ℕ) (between : Between below reaching) where
-    pub middle_in_table : (below + reaching) / 2 < 401
-    middle_in_table = omega (arith, between)
+  pub found : (step : ℕ) → step ≤ length flows → IsPartitionPoint (λ entry. is_short flow entry ≡ true) (λ entry. is_short flow entry ≡ false) flows step
+      → step ≡ lowest_step (entry_of flows) flow
+  found step inside parted =
+      lowest_only (entry_of flows) flow step
+      (record { is_a_step = in_table; reaches = ltb-false (entry_of flows step) flow (parted.1 step 0 (omega arith) (omega (arith, in_table, search.table.each_step))); no_lower = short })
+    where
+      short : (lower : ℕ) → lower < step → entry_of flows lower < flow
+      short lower below = ltb-true (entry_of flows lower) flow (parted.0 lower 0 (omega arith) below)
 
-    module _ (more : below + 1 < reaching) where
-      pub from_middle : entry_of flows ((below + reaching) / 2) < flow → Between ((below + reaching) / 2) reaching
-      from_middle short = record { apart = omega arith; in_table = between.in_table; not_yet = short; reached = between.reached }
-
-      pub to_middle : flow ≤ entry_of flows ((below + reaching) / 2) → Between below ((below + reaching) / 2)
-      to_middle reaches = record { apart = omega arith; in_table = omega (arith, between.in_table); not_yet = between.not_yet; reached = reaches }
-
-    -- every step up to `below` gives no more than `below` does
-    short : Searchable flows flow → (lower : ℕ) → lower ≤ below → entry_of flows lower < flow
-    short search lower up_to_lem =
-        let risen : entry_of flows lower ≤ entry_of flows below =
-        subst (λ (step : ℕ). entry_of flows lower ≤ entry_of flows step) (add-sub_of_le up_to_lem) (rises search.table.is_table lower (below - lower) (omega (arith, between))) in
-        omega (arith, between.not_yet)
-
-    pub found : Searchable flows flow → reaching ≤ below + 1 → reaching ≡ lowest_step (entry_of flows) flow
-    found search next =
-        lowest_only (entry_of flows) flow reaching
-        (record { is_a_step = between.in_table; reaches = between.reached; no_lower = λ lower under. short search lower (omega arith) })
+      in_table : step ≤ 400
+      in_table = by_end (ltb 400 step) refl
+        where
+          by_end : (beyond : Bool) → ltb 400 step ≡ beyond → step ≤ 400
+          by_end true is = absurd (omega (arith, short 400 (ltb-true 400 step is), search.table.is_table.ends, search.within))
+          by_end false is = ltb-false 400 step is

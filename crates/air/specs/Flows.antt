@@ -1,10 +1,10 @@
 -- Primary air: document 02, F-7. For the auditor.
 -- `proofs/Roots.antt` shows that `whole_root` is the one number that `IsWholeRoot` says (`root_rule`, `root_only`), `proofs/LowestStep.antt` that `lowest_step` is the one step that `IsLowestStep` says (`lowest_rule`, `lowest_only`).
-use Rattle.std.specs.Prelude.{◌≡◌, ℕ, suc, ◌*◌, ◌≤◌, ◌<◌, leb, ltb}
+use Rattle.std.specs.Prelude.{◌≡◌, ℕ, suc, ◌*◌, ◌≤◌, ◌<◌, leb, ltb, Result}
 use Rattle.limits.specs.Answers.{◌when◌, granted}
 use Rattle.limits.specs.Lowest.{lowest}
-use Rattle.air.specs.declared.FlowAnswer.{FlowAnswer}
-use Rattle.air.specs.declared.StepAnswer.{StepAnswer}
+use Rattle.refusals.specs.Answers.{refused_with, answered}
+use Rattle.refusals.specs.declared.Refusal.{Refusal}
 
 -- "the whole part of the square root" of a number: its square is at most the number, and the square of the next is above it
 pub record IsWholeRoot (number root : ℕ) : Type 0 where
@@ -24,9 +24,9 @@ abbrev pub flow_refusal : ℕ → ℕ
 flow_refusal step = 13 when ltb 400 step
 
 -- the flow of a step
-pub record FlowGiven (step : ℕ) (answer : FlowAnswer) : Type 0 where
-  pub refusal_is : answer.refusal ≡ flow_refusal step
-  pub flow_is : answer.flow ≡ granted answer.refusal (flow_of step) 0
+pub record FlowGiven (step : ℕ) (answer : Result ℕ Refusal) : Type 0 where
+  pub refusal_is : refused_with answer ≡ flow_refusal step
+  pub flow_is : answered 0 answer ≡ granted (refused_with answer) (flow_of step) 0
 
 -- a table of flows, the factory's or another, has one for each of the steps 0 to 400: it starts at 0, ends at 1,000 and never falls
 pub record IsTable (flowAt : ℕ → ℕ) : Type 0 where
@@ -49,6 +49,6 @@ abbrev pub step_refusal : ℕ → ℕ
 step_refusal flow = 13 when ltb 1000 flow
 
 -- the lowest step for a flow
-pub record StepFound (flow : ℕ) (answer : StepAnswer) : Type 0 where
-  pub refusal_is : answer.refusal ≡ step_refusal flow
-  pub step_is : answer.step ≡ granted answer.refusal (lowest_step flow_of flow) 0
+pub record StepFound (flow : ℕ) (answer : Result ℕ Refusal) : Type 0 where
+  pub refusal_is : refused_with answer ≡ step_refusal flow
+  pub step_is : answered 0 answer ≡ granted (refused_with answer) (lowest_step flow_of flow) 0

@@ -8,74 +8,34 @@ ghost use Rattle.air.specs.Flows.{FlowGiven, StepFound, lowest_step};
 ghost use Rattle.air.specs.Inner.{entry_of, Searchable};
 
 use factory::FLOWS;
+use refusals::Refusal;
 
-// The flow of a step in thousandths, 0 where the step is refused.
-#[derive(Clone, Copy)]
-pub struct FlowAnswer {
-    pub refusal: u8,
-    pub flow: u16,
-}
-
-// The lowest step for a flow, 0 where the flow is refused.
-#[derive(Clone, Copy)]
-pub struct StepAnswer {
-    pub refusal: u8,
-    pub step: u16,
-}
-
-// The flow of a step, by the factory's table.
-pub fn flow_of_step(step: u64) -> FlowAnswer
+// The flow of a step in thousandths, by the factory's table.
+pub fn flow_of_step(step: u64) -> Result<u16, Refusal>
     ensures { FlowGiven step result }
 {
     if 400 < step {
-        return FlowAnswer {
-            refusal: limits::AIR_BEYOND,
-            flow: 0,
-        };
+        return Err(Refusal::AirBeyond);
     }
-    let flow = FLOWS[step as usize];
-    FlowAnswer {
-        refusal: 0,
-        flow: flow,
-    }
+    Ok(FLOWS[step as usize])
 }
 
 // The lowest step whose flow reaches a given one. A step's flow reaches it exactly where 2,500 times the step reaches the given flow's square, so the step is computed and no table is laid out.
-pub fn step_for_flow(flow: u64) -> StepAnswer
+pub fn step_for_flow(flow: u64) -> Result<u16, Refusal>
     ensures { StepFound flow result }
 {
     if 1000 < flow {
-        return StepAnswer {
-            refusal: limits::AIR_BEYOND,
-            step: 0,
-        };
+        return Err(Refusal::AirBeyond);
     }
     let flow = flow as u32;
     let step = (flow * flow + 2499) / 2500;
-    StepAnswer {
-        refusal: 0,
-        step: step as u16,
-    }
+    Ok(step as u16)
 }
 
-// The lowest step whose flow reaches a given one, by any table, searched by halving: the flow of `below` does not reach it, that of `reaching` does.
+// The lowest step whose flow reaches a given one, by any table: the steps before it are those whose flow does not.
 pub fn search_step(flows: &[u16], flow: u32) -> u32
     requires { Searchable flows.now flow }
     ensures { result ≡ lowest_step (entry_of flows.now) flow }
 {
-    if flow == 0 {
-        return 0;
-    }
-    let mut below: u32 = 0;
-    let mut reaching: u32 = 400;
-    while below + 1 < reaching {
-        let middle = (below + reaching) / 2;
-        let entry = flows[middle as usize] as u32;
-        if entry < flow {
-            below = middle;
-        } else {
-            reaching = middle;
-        }
-    }
-    reaching // the step after `below`
+    flows.partition_point(|entry| u32::from(*entry) < flow) as u32
 }

@@ -6,7 +6,7 @@ use mathlib.Core.List.{List, [], ◌∷◌}
 use Prim.Native.Nat.{ℕ, zero, suc, ◌+◌, ◌<◌, ◌≤◌}
 use native.Mathlib.Omega.{arith}
 use lib.Dec.{T, eqb}
-use lib.ListN.{length, get_or}
+use lib.ListN.{length, get_or, replicate}
 use borrow.Author.Tests.{eq-eqb, ne_eqb, eqb-true, eqb-false}
 use Rattle.bands.specs.declared.SpecialSlot.{SpecialSlot}
 use Rattle.bands.specs.Bands.{right_specials, band_at, bands_from, slot_bands, specials_from, specials_among}
@@ -32,6 +32,15 @@ band_from slot (suc count) common specials (suc place) inside =
 
 pub band_of_slot : (n common : ℕ) (specials : List SpecialSlot) (slot : ℕ) → slot < n → get_or (slot_bands n common specials) slot 0 ≡ band_at common specials slot
 band_of_slot n common specials slot inside = band_from 0 n common specials slot inside ∙ ap (band_at common specials) (omega arith)
+
+-- with no special slot every slot goes by the common band
+common_from : (slot count common : ℕ) → bands_from slot count common [] ≡ replicate count common
+unfolding bands_from band_at
+common_from slot zero common = refl
+common_from slot (suc count) common = ap (λ (bands : List ℕ). common ∷ bands) (common_from (suc slot) count common)
+
+pub all_common : (n common : ℕ) → slot_bands n common [] ≡ replicate n common
+all_common n common = common_from 0 n common
 
 -- a slot before the first that can be special goes by the common band
 pub none_before : {first n common : ℕ} (specials : List SpecialSlot) → RightFrom first n common specials → (otherwise slot : ℕ) → slot < first

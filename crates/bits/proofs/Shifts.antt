@@ -1,20 +1,14 @@
 -- Shifts as the code has them, `a * 2 ^ n % 2 ^ 32`, where nothing is shifted out: the number with a field replaced has no more bits than it had.
 use mathlib.Core.Path.{◌≡◌, sym, ap, ◌∙◌, subst}
-use Prim.Native.Nat.{ℕ, ◌+◌, ◌-◌, ◌*◌, ◌/◌, ◌%◌, ◌^◌, ◌<◌, ◌≤◌}
+use Prim.Native.Nat.{ℕ, ◌+◌, ◌-◌, ◌*◌, ◌/◌, ◌%◌, ◌^◌, ◌<◌}
 use native.Mathlib.Nat.{mod-lt, mod-eq_of_lt, div-le_self, div-mul-le_self}
 use native.Mathlib.Omega.{arith}
 use lib.Arith.{digits_lt}
-use lib.Pow.{pow_pos, pow_mono, pow-add, shr_lt}
-use mir.Syntax.{w16, w32}
+use lib.Pow.{pow_pos, pow-add, shr_lt}
+use mir.Syntax.{w32}
 use mir.Val.{Fits}
 use Rattle.limits.proofs.Shifting.{one_shifted}
 use Rattle.bits.specs.Inner.{FieldInWord, with_field}
-
--- a remainder of at most 16 bits
-pub remainder_fits : (number width : ℕ) → width ≤ 16 → Fits w16 (number % 2 ^ width)
-remainder_fits number width narrow =
-    let power : 2 ^ width ≤ 2 ^ 16 = pow_mono narrow in
-    record { fits = omega (arith, mod-lt number (pow_pos width)) }
 
 with_field_below : (before width after word number : ℕ) → word < 2 ^ (before + width + after) → number < 2 ^ width
     → with_field word width after number < 2 ^ (before + width + after)
@@ -31,12 +25,6 @@ module _ (word width after number : ℕ) (asked : FieldInWord word width after n
 
   upper_shifted : word / 2 ^ after / 2 ^ width * 2 ^ width % 2 ^ 32 ≡ word / 2 ^ after / 2 ^ width * 2 ^ width
   upper_shifted = let small = upper_small in mod-eq_of_lt (omega arith)
-
-  pub upper_fits : Fits w32 (word / 2 ^ after / 2 ^ width * 2 ^ width % 2 ^ 32 + number)
-  upper_fits =
-      let narrow : width ≤ 24 = omega (arith, asked.field_fits) in
-      let power : 2 ^ width ≤ 2 ^ 24 = pow_mono narrow in
-      rw upper_shifted (record { fits = omega (arith, upper_small, asked.number_fits) })
 
   with_field_small : with_field word width after number < 2 ^ 24
   with_field_small =

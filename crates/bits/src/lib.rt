@@ -8,7 +8,7 @@ ghost use Rattle.bits.specs.Signed.{complement, signed_of};
 ghost use Rattle.bits.specs.Inner.{Within, Fitting, FittingSigned, SignedBits, FieldInWord, word_at, word_bytes, with_field};
 
 // A place in a record: a bit number, counted from the first byte's top bit.
-#[derive(Clone, Copy)]
+#[derive(Clone, Copy, Debug, PartialEq, Eq)]
 pub struct BitPlace {
     pub at: usize,
 }
@@ -80,7 +80,11 @@ impl BitPlace {
         let shift = at % 8;
         let word = word_at(bytes, first);
         let after = 24 - shift - width;
-        put_word(bytes, first, with_field(word, width, after, number as u32));
+        put_word(
+            bytes,
+            first,
+            with_field(word, width, after, u32::from(number)),
+        );
     }
 
     // The signed number in the field at this place, in two's complement.
@@ -105,34 +109,35 @@ fn signed_of(width: usize, number: u16) -> i16
     requires { (width ≤ 16) × (number < 2 ^ width) }
     ensures { result ≡ signed_of width number }
 {
-    let wide = number as u32;
+    let wide = u32::from(number);
     let limit = 1u32 << width;
     if 2 * wide < limit {
-        return wide as i16;
+        wide as i16
+    } else {
+        (0 - (limit - wide) as i32) as i16
     }
-    (0 - (limit - wide) as i32) as i16
 }
 
-// The number of `width` bits that stands for a signed one: itself, or 2^width more where it is below zero. Raised by 2^width it is unsigned either way.
+// The number of `width` bits that stands for a signed one: itself, or 2^width more where it is below zero. Of its 16 bits these are the last `width`.
 pub fn complement_of(width: usize, number: i16) -> u16
     requires { (width ≤ 16) × SignedBits width number }
     ensures { result ≡ complement width number }
 {
-    let limit = 1u32 << width;
-    ((limit as i32 + number as i32) as u32 % limit) as u16
+    (u32::from(number.cast_unsigned()) % (1u32 << width)) as u16
 }
 
-// The byte at an index, and 0 past the end.
+// The byte at an index, and 0 past the end. By an index: what `get` gives back holds a pointer, which firmware/audit refuses, since it has 4 bytes on the panel's core.
 fn byte_at(bytes: &[u8], i: usize) -> u32
     ensures { result ≡ get_or bytes.now i 0 }
 {
     if i < bytes.len() {
-        return bytes[i] as u32;
+        u32::from(bytes[i])
+    } else {
+        0
     }
-    0
 }
 
-// Stores a byte, and nothing past the end.
+// Stores a byte, and nothing past the end. By an index for the same reason.
 fn put_byte(bytes: &mut [u8], i: usize, byte: u8)
     ensures { bytes.new ≡ set bytes.old i byte }
 {
@@ -141,7 +146,7 @@ fn put_byte(bytes: &mut [u8], i: usize, byte: u8)
     }
 }
 
-// Three bytes from an index on, as one number.
+// Three bytes from an index on, as one number. By products: with `from_be_bytes`, and `to_be_bytes` below, the panel's core takes more instructions for each field.
 fn word_at(bytes: &[u8], i: usize) -> u32
     requires { i + 2 < 2 ^ 64 }
     ensures { result ≡ word_at bytes.now i }

@@ -1,5 +1,5 @@
 -- What follows where building or the least band is not refused.
-use mathlib.Core.Path.{◌≡◌, sym, subst}
+use mathlib.Core.Path.{◌≡◌, sym, ap, subst, ◌∙◌}
 use mathlib.Core.Bool.{Bool, false, not, ◌||◌}
 use mathlib.Core.List.{List}
 use Prim.Native.Nat.{ℕ, ◌≤◌}
@@ -7,22 +7,22 @@ use native.Mathlib.Omega.{arith}
 use lib.Dec.{T, ltb}
 use lib.IntN.{ℤ, nat_abs}
 use lib.ListN.{length}
-use lib.Signed.{non_neg}
 use borrow.Author.Tests.{ltb-false, not-false, le-ltb, ne_eqb}
 use Rattle.limits.specs.Limits.{beyond, outside_band, outside_slots, any_beyond}
-use Rattle.limits.proofs.Beyond.{within_all, none_beyond_range, band_accepted, band_not_below}
+use Rattle.limits.proofs.Beyond.{within_all, none_beyond_range, band_accepted}
 use Rattle.limits.proofs.Refusals.{passed, passed_last, none_of_two, SlotsWithin, slots_within}
 use Rattle.limits.proofs.Tests.{neither_holds}
 use Rattle.limits.specs.Answers.{◌when◌, ◌then◌}
 use Rattle.bands.specs.declared.SpecialSlot.{SpecialSlot}
-use Rattle.bands.specs.Bands.{right_specials, slot_bands}
-use Rattle.bands.proofs.Bands.{length_slot_bands, bands_within}
+use Rattle.bands.specs.Bands.{special_slots, right_specials, slot_bands}
+use Rattle.bands.proofs.Bands.{length_slot_bands, bands_within, specials_of_bands}
+use Rattle.bands.proofs.Lent.{length_specials}
 use Rattle.histogram.specs.Tree.{padded}
 use Rattle.claims.specs.Best.{InRange}
 use Rattle.claims.proofs.Range.{read_within}
 use Rattle.build.specs.Building.{values_refusal, bands_refusal, build_refusal, destination_short, scratch_short}
 use Rattle.build.specs.LeastBand.{least_band_refusal}
-use Rattle.build.specs.Inner.{Acceptable, Buildable}
+use Rattle.build.specs.Inner.{Acceptable, Buildable, Counted}
 
 -- setpoints and a rest value that are not refused
 pub record ProfileAccepted (profile : List ℤ) (rest : ℤ) : Type 0 where
@@ -88,18 +88,12 @@ module _ (profile : List ℤ) (rest band : ℤ) (specials : List SpecialSlot) (p
   pub band_within : nat_abs band ≤ 40000
   band_within = band_accepted band band_inside
 
-  pub band_from_zero : T (non_neg band)
-  band_from_zero = band_not_below band band_inside
-
   -- the special slots are right
   pub specials_accepted : T (right_specials (length profile) (nat_abs band) specials)
   specials_accepted = rw (not-false (right_specials (length profile) (nat_abs band) specials) (passed_last 10 _ (passed 2 (outside_band band) _ of_bands).1)) tt
 
-  pub long_enough : (destination_short profile places ≡ false) × (scratch_short numbers ≡ false)
+  long_enough : (destination_short profile places ≡ false) × (scratch_short numbers ≡ false)
   long_enough = neither_holds (destination_short profile places) (scratch_short numbers) (passed_last 5 _ (none_of_two (bands_refusal (length profile) band specials) _ later_none).1)
-
-  pub few_slots : length profile ≤ 512
-  few_slots = (profile_accepted profile rest of_values).slots.few_slots
 
 pub buildable : (profile : List ℤ) (rest band : ℤ) (specials : List SpecialSlot) (nodes : List ℕ) (values scratch : List ℤ) → length nodes ≡ length values
     → build_refusal profile rest band specials (length nodes) (length scratch) ≡ 0 → Buildable profile rest (slot_bands (length profile) (nat_abs band) specials) nodes values scratch
@@ -116,4 +110,16 @@ buildable profile rest band specials nodes values scratch same_length none =
       };
       same_length = same_length;
       destination_long = ltb-false (length nodes) (padded (length profile)) long.0;
+    }
+
+-- as many slots go by a band of their own as there are special slots
+pub all_counted : (profile : List ℤ) (rest band : ℤ) (specials own : List ℕ) (places numbers : ℕ) → length specials ≡ length own
+    → build_refusal profile rest band (special_slots specials own) places numbers ≡ 0
+    → Counted (nat_abs band) (length specials) (slot_bands (length profile) (nat_abs band) (special_slots specials own))
+all_counted profile rest band specials own places numbers same_length none =
+    let right = specials_accepted profile rest band (special_slots specials own) places numbers none in
+    record {
+      specials_are =
+          sym (ap (λ (list : List SpecialSlot). length list) (specials_of_bands (nat_abs band) (length profile) (special_slots specials own) right) ∙ length_specials specials own same_length);
+      common_within = band_within profile rest band (special_slots specials own) places numbers none;
     }

@@ -1,5 +1,5 @@
 -- From what was built over the tree to the first best synopsis of the profile, handed over.
-use mathlib.Core.Path.{◌≡◌, refl, sym, ap, ap₂, subst, ◌∙◌}
+use mathlib.Core.Path.{◌≡◌, sym, ap, ap₂, subst, ◌∙◌}
 use mathlib.Core.Bool.{false}
 use mathlib.Core.List.{List, []}
 use Prim.Native.Nat.{ℕ, suc, ◌-◌, ◌≤◌, ◌<◌}
@@ -7,7 +7,7 @@ use native.Mathlib.Omega.{arith}
 use lib.Dec.{T}
 use lib.IntN.{ℤ}
 use lib.ListN.{length, take, drop, length-map}
-use Rattle.limits.proofs.Laying.{front_of, past_front, room_for}
+use Rattle.limits.proofs.Laying.{front_of, past_front}
 use Rattle.bands.specs.Inner.{Least}
 use Rattle.bands.proofs.Bands.{length_slot_bands}
 use Rattle.histogram.specs.declared.Term.{Term}
@@ -54,13 +54,6 @@ module _ {terms : List Term} {nodes nodes' : List ℕ} {values values' : List �
 
   values_handed : length (take count values') ≡ count
   values_handed = ap (λ (list : List ℤ). length list) of_values ∙ as_many_values
-
-  -- and both destinations have so many
-  pub nodes_room : count ≤ length nodes'
-  nodes_room = rw traced.nodes_are (omega (arith, room_for (nodes_of terms) nodes, as_many_nodes))
-
-  pub values_room : count ≤ length values'
-  values_room = rw traced.values_are (omega (arith, room_for (values_of terms) values, as_many_values))
 
   -- the terms that were traced are those handed over
   handed_over_lem : handed_over count nodes' values' ≡ terms
@@ -146,9 +139,8 @@ module _ (profile : List ℤ) (rest : ℤ) (bands nodes : List ℕ) (values scra
         }
 
     pub first_built : (error : ℕ) → error ≡ greatest_error profile rest (handed_over count nodes' values')
-        → FirstBuilt profile rest bands (record { refusal = 0; count = count; error = error }) nodes nodes' values values'
+        → FirstBuilt profile rest bands (record { count = count; error = error }) nodes nodes' values values'
     first_built error error_is = record {
-      refusal_is = refl;
       terms_are = terms_are;
       count_is = built.traced.count_is ∙ ap (λ (terms : List Term). length terms) (sym (handed_over_lem built.traced));
       error_is = error_is;

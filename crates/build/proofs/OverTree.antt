@@ -1,39 +1,18 @@
 -- Building over a tree: the count for the bands gives the budget of the search, and the margin found the terms to trace.
 use mathlib.Core.Path.{◌≡◌, subst}
-use mathlib.Core.Bool.{true}
 use mathlib.Core.List.{List}
-use Prim.Native.Nat.{ℕ, ◌≤◌}
+use Prim.Native.Nat.{ℕ}
 use native.Mathlib.Omega.{arith}
 use lib.IntN.{ℤ}
 use lib.ListN.{length}
 use Rattle.claims.specs.Inner.{narrowed}
 use Rattle.windows.specs.Scratch.{at}
-use Rattle.subtree.specs.Stretch.{Solved, Solvable, Counted}
+use Rattle.subtree.specs.Stretch.{Solved, Counted}
 use Rattle.subtree.proofs.Slots.{windows_for, windows_usable}
 use Rattle.trace.specs.Trace.{LevelsFit, LevelsTraced}
-use Rattle.build.specs.Inner.{Searchable, GreatestWithin, TreeFits, TreeBuilt}
-
--- a stretch of the same length serves as well, and so does a smaller margin
-pub solvable_smaller : {top height : ℕ} {setpoints : List ℤ} {bands : List ℕ} {before : List ℤ} → Solvable top height setpoints bands before
-    → (later : List ℤ) → length later ≡ length before → {margin : ℕ} → margin ≤ top → Solvable margin height setpoints bands later
-solvable_smaller solvable later same_length within = record {
-  few_slots = solvable.few_slots;
-  setpoints_within = solvable.setpoints_within;
-  each_band = solvable.each_band;
-  bands_over = record { each = λ slot inside. omega (arith, solvable.bands_over.each slot inside) };
-  in_tree = solvable.in_tree;
-  room = omega (arith, solvable.room);
-}
+use Rattle.build.specs.Inner.{GreatestWithin, TreeFits, TreeBuilt}
 
 module _ (top height value : ℕ) (setpoints : List ℤ) (bands nodes : List ℕ) (values before : List ℤ) (fits : TreeFits top height value setpoints bands nodes values before) where
-  pub searchable : (later : List ℤ) (budget : ℕ) → length later ≡ length before → Counted height value (windows_for 0 bands setpoints) later budget
-      → Searchable top height value budget true setpoints bands later
-  searchable later budget same_length counted = record {
-    solvable = solvable_smaller fits.solvable later same_length (omega arith);
-    enough = omega (arith, counted.count_is);
-    in_scratch = λ _. counted.solved;
-  }
-
   pub levels_fit : (later : List ℤ) (margin : ℕ) → length later ≡ length before → Solved height (windows_for margin bands setpoints) (at later) → LevelsFit later height value nodes values
   levels_fit later margin same_length solved = record {
     stretch = record {

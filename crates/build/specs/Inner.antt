@@ -14,7 +14,7 @@ use Rattle.windows.specs.Scratch.{at}
 use Rattle.subtree.specs.Answer.{slot_windows, terms_for}
 use Rattle.subtree.specs.Stretch.{Solvable, Solved}
 use Rattle.trace.specs.Trace.{upper_terms, Traced}
-use Rattle.build.specs.declared.BuildAnswer.{BuildAnswer}
+use Rattle.build.specs.declared.BuiltSynopsis.{BuiltSynopsis}
 use Rattle.build.specs.Building.{values_refusal, handed_over}
 
 -- the terms that are traced for bands over a tree of setpoints, where a value comes in at the root
@@ -95,8 +95,7 @@ pub record Kept (profile : List ℤ) (rest : ℤ) (bands : List ℕ) (margin : �
   pub margin_is : least_margin profile rest (paired nodes values) bands ≡ margin
 
 -- the first best synopsis is handed over
-pub record FirstBuilt (profile : List ℤ) (rest : ℤ) (bands : List ℕ) (answer : BuildAnswer) (nodes nodes' : List ℕ) (values values' : List ℤ) : Type 0 where
-  pub refusal_is : answer.refusal ≡ 0
+pub record FirstBuilt (profile : List ℤ) (rest : ℤ) (bands : List ℕ) (answer : BuiltSynopsis) (nodes nodes' : List ℕ) (values values' : List ℤ) : Type 0 where
   pub terms_are : handed_over answer.count nodes' values' ≡ first_synopsis profile rest bands
   pub count_is : answer.count ≡ length (handed_over answer.count nodes' values')
   pub error_is : answer.error ≡ greatest_error profile rest (handed_over answer.count nodes' values')

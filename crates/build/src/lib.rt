@@ -1,5 +1,7 @@
 // Building the first best synopsis of a profile, and the least band for a number of terms.
 // Terms are handed over in two slices of equal length, their nodes and their values; special slots come so too.
+// Document 01 has slices of structs in thin functions around such code.
+// Its arrays have the greatest size that can be needed: the panel has no heap.
 #![tactic(auto)]
 
 mod tree;
@@ -10,20 +12,21 @@ ghost use Rattle.bands.specs.Inner.{Least};
 ghost use Rattle.histogram.specs.Terms.{paired};
 ghost use Rattle.histogram.specs.Errors.{greatest_error};
 ghost use Rattle.claims.specs.LeastBand.{LeastBand};
-ghost use Rattle.build.specs.Building.{values_refusal, scratch_short, bands_refusal, build_refusal, Built, handed_over, MemoryLeft};
+ghost use Rattle.refusals.specs.Answers.{refused_with};
+ghost use Rattle.build.specs.Building.{values_refusal, scratch_short, bands_refusal, build_refusal, count_of, Built, handed_over, MemoryLeft};
 ghost use Rattle.build.specs.LeastBand.{least_band_refusal, LeastBandFound};
 ghost use Rattle.build.specs.Inner.{Acceptable, Buildable, Counted, Kept, FirstBuilt};
 
 use bands::{fill, is_right, least, spread};
 use histogram::terms::padded_length;
+use refusals::Refusal;
 use subtree::lift;
-use tree::{build_tree, greatest_margin_within, height_over};
+use tree::{Tree, height_over};
 use verdict::judge;
 
-// Building's answer: how many terms were handed over, and their greatest error.
-#[derive(Clone, Copy)]
-pub struct BuildAnswer {
-    pub refusal: u8,
+// What was built: how many terms were handed over, and their greatest error.
+#[derive(Clone, Copy, Debug)]
+pub struct BuiltSynopsis {
     pub count: usize,
     pub error: u16,
 }
@@ -39,12 +42,12 @@ pub fn build_synopsis(
     nodes: &mut [u16],
     values: &mut [i16],
     scratch: &mut [i16],
-) -> BuildAnswer
+) -> Result<BuiltSynopsis, Refusal>
     requires { (length specials.now ≡ length own.now) × (length nodes.old ≡ length values.old) }
-    ensures { Built setpoints.now rest band (special_slots specials.now own.now) (length nodes.old) (length scratch.old) result (handed_over result.count nodes.new values.new)
+    ensures { Built setpoints.now rest band (special_slots specials.now own.now) (length nodes.old) (length scratch.old) result (handed_over (count_of result) nodes.new values.new)
         × MemoryLeft result nodes.old nodes.new values.old values.new scratch.old scratch.new }
 {
-    let refusal = refuse_build(
+    refuse_build(
         setpoints,
         rest,
         band,
@@ -52,18 +55,11 @@ pub fn build_synopsis(
         own,
         nodes.len(),
         scratch.len(),
-    );
-    if 0 < refusal {
-        return BuildAnswer {
-            refusal: refusal,
-            count: 0,
-            error: 0,
-        };
-    }
+    )?;
     let slots = setpoints.len();
     let mut bands = [0u16; 512];
     spread(band as u16, specials, own, &mut bands[..slots]);
-    build_first(
+    Ok(build_first(
         setpoints,
         &bands[..slots],
         band as u32,
@@ -72,10 +68,10 @@ pub fn build_synopsis(
         nodes,
         values,
         scratch,
-    )
+    ))
 }
 
-// The number that refuses building; 0 for none.
+// What building is refused for, if for anything.
 fn refuse_build(
     setpoints: &[i16],
     rest: i32,
@@ -84,55 +80,43 @@ fn refuse_build(
     own: &[u16],
     places: usize,
     numbers: usize,
-) -> u8
+) -> Result<(), Refusal>
     requires { length specials.now ≡ length own.now }
-    ensures { result ≡ build_refusal setpoints.now rest band (special_slots specials.now own.now) places numbers }
+    ensures { refused_with result ≡ build_refusal setpoints.now rest band (special_slots specials.now own.now) places numbers }
 {
-    let wrong = refuse_setpoints(setpoints, rest);
-    if 0 < wrong {
-        return wrong;
+    refuse_setpoints(setpoints, rest)?;
+    refuse_bands(setpoints.len(), band, specials, own)?;
+    if places < padded_length(setpoints.len()) || is_scratch_short(numbers) {
+        return Err(Refusal::OutputShort);
     }
-    let wrong_band = refuse_bands(setpoints.len(), band, specials, own);
-    if 0 < wrong_band {
-        return wrong_band;
-    }
-    if places < padded_length(setpoints.len()) {
-        return limits::OUTPUT_SHORT;
-    }
-    if is_scratch_short(numbers) {
-        return limits::OUTPUT_SHORT;
-    }
-    0
+    Ok(())
 }
 
-// The number that refuses a common band and special slots for a number of slots; 0 for none.
-fn refuse_bands(slots: usize, band: i32, specials: &[u16], own: &[u16]) -> u8
+// What a common band and special slots are refused for, for a number of slots.
+fn refuse_bands(slots: usize, band: i32, specials: &[u16], own: &[u16]) -> Result<(), Refusal>
     requires { length specials.now ≡ length own.now }
-    ensures { result ≡ bands_refusal slots band (special_slots specials.now own.now) }
+    ensures { refused_with result ≡ bands_refusal slots band (special_slots specials.now own.now) }
 {
     if limits::is_outside_band(band) {
-        return limits::BAND_BEYOND;
+        return Err(Refusal::BandBeyond);
     }
-    if is_right(slots, band as u16, specials, own) {
-        return 0;
+    if !is_right(slots, band as u16, specials, own) {
+        return Err(Refusal::SpecialsWrong);
     }
-    limits::SPECIALS_WRONG
+    Ok(())
 }
 
-// The number that refuses setpoints and their rest value; 0 for none.
-fn refuse_setpoints(setpoints: &[i16], rest: i32) -> u8
-    ensures { result ≡ values_refusal setpoints.now rest }
+// What setpoints and their rest value are refused for.
+fn refuse_setpoints(setpoints: &[i16], rest: i32) -> Result<(), Refusal>
+    ensures { refused_with result ≡ values_refusal setpoints.now rest }
 {
     if limits::is_outside_slots(setpoints.len()) {
-        return limits::SLOTS_BEYOND;
+        return Err(Refusal::SlotsBeyond);
     }
-    if limits::is_beyond(limits::VALUE_LIMIT, rest) {
-        return limits::VALUE_BEYOND;
+    if limits::is_beyond(limits::VALUE_LIMIT, rest) || limits::is_any_beyond(setpoints) {
+        return Err(Refusal::ValueBeyond);
     }
-    if limits::is_any_beyond(setpoints) {
-        return limits::VALUE_BEYOND;
-    }
-    0
+    Ok(())
 }
 
 // Whether scratch has fewer numbers than every tree is given.
@@ -152,15 +136,19 @@ pub fn build_first(
     nodes: &mut [u16],
     values: &mut [i16],
     scratch: &mut [i16],
-) -> BuildAnswer
+) -> BuiltSynopsis
     requires { Buildable setpoints.now rest bands.now nodes.old values.old scratch.old × Counted common specials bands.now }
     ensures { FirstBuilt setpoints.now rest bands.now result nodes.old nodes.new values.old values.new
         × (length scratch.new ≡ length scratch.old) }
 {
-    let height = height_over(setpoints.len());
-    let value = lift(rest);
+    let tree = Tree {
+        setpoints,
+        bands,
+        value: lift(rest),
+        height: height_over(setpoints.len()),
+    };
     let top = least_of(bands, common, specials);
-    let built = build_tree(setpoints, bands, value, top, nodes, values, scratch, height);
+    let built = tree.build_tree(top, nodes, values, scratch);
     let count = built.count;
     let error = error_of(
         setpoints,
@@ -172,11 +160,7 @@ pub fn build_first(
         &nodes[..count],
         &values[..count],
     );
-    BuildAnswer {
-        refusal: 0,
-        count: count,
-        error: error,
-    }
+    BuiltSynopsis { count, error }
 }
 
 // The least band: the common one where there are no special slots.
@@ -185,9 +169,10 @@ fn least_of(bands: &[u16], common: u32, specials: usize) -> u32
     ensures { Least bands.now (length bands.now) result }
 {
     if specials == 0 {
-        return common;
+        common
+    } else {
+        u32::from(least(bands))
     }
-    least(bands) as u32
 }
 
 // The greatest error of a synopsis whose least margin is known: what the margin leaves of the band where there is one for all slots.
@@ -207,48 +192,39 @@ fn error_of(
     if specials == 0 {
         return (common - margin) as u16;
     }
-    judge(setpoints, bands, rest, nodes, values).error
-}
-
-// The least band's answer.
-#[derive(Clone, Copy)]
-pub struct LeastBandAnswer {
-    pub refusal: u8,
-    pub band: u16,
+    judge(setpoints, bands, rest, nodes, values).unwrap().error
 }
 
 // Finds the least band that some synopsis of at most `budget` terms keeps.
-pub fn least_band(setpoints: &[i16], rest: i32, budget: u32, scratch: &mut [i16]) -> LeastBandAnswer
+pub fn least_band(
+    setpoints: &[i16],
+    rest: i32,
+    budget: u32,
+    scratch: &mut [i16],
+) -> Result<u16, Refusal>
     ensures { LeastBandFound setpoints.now rest budget result scratch.old scratch.new }
 {
-    let refused = refuse_least_band(setpoints, rest, budget, scratch.len());
-    if 0 < refused {
-        return LeastBandAnswer {
-            refusal: refused,
-            band: 0,
-        };
-    }
-    LeastBandAnswer {
-        refusal: 0,
-        band: least_band_of(setpoints, rest, budget, scratch),
-    }
+    refuse_least_band(setpoints, rest, budget, scratch.len())?;
+    Ok(least_band_of(setpoints, rest, budget, scratch))
 }
 
-// The number that refuses the search for a least band; 0 for none.
-fn refuse_least_band(setpoints: &[i16], rest: i32, budget: u32, numbers: usize) -> u8
-    ensures { result ≡ least_band_refusal setpoints.now rest budget numbers }
+// What the search for a least band is refused for, if for anything.
+fn refuse_least_band(
+    setpoints: &[i16],
+    rest: i32,
+    budget: u32,
+    numbers: usize,
+) -> Result<(), Refusal>
+    ensures { refused_with result ≡ least_band_refusal setpoints.now rest budget numbers }
 {
-    let wrong = refuse_setpoints(setpoints, rest);
-    if 0 < wrong {
-        return wrong;
-    }
+    refuse_setpoints(setpoints, rest)?;
     if 1023 < budget {
-        return limits::BUDGET_BEYOND;
+        return Err(Refusal::BudgetBeyond);
     }
     if is_scratch_short(numbers) {
-        return limits::OUTPUT_SHORT;
+        return Err(Refusal::OutputShort);
     }
-    0
+    Ok(())
 }
 
 // Finds it where nothing is refused. Every profile keeps the band 400,00 with no term, and a margin of it is a narrower band.
@@ -259,17 +235,12 @@ fn least_band_of(setpoints: &[i16], rest: i32, budget: u32, scratch: &mut [i16])
     let slots = setpoints.len();
     let mut bands = [0u16; 512];
     fill(40000, &mut bands[..slots]);
-    let height = height_over(slots);
-    let value = lift(rest);
-    let found = greatest_margin_within(
+    let tree = Tree {
         setpoints,
-        &bands[..slots],
-        value,
-        budget,
-        40000,
-        scratch,
-        height,
-        false,
-    );
+        bands: &bands[..slots],
+        value: lift(rest),
+        height: height_over(slots),
+    };
+    let found = tree.greatest_margin_within(budget, 40000, scratch, false);
     (40000 - found.margin) as u16
 }

@@ -6,11 +6,12 @@ mod special_slots;
 
 ghost use Rattle.std.specs.Prelude.{◌≡◌, ◌≤◌, length};
 
-use build::{BuildAnswer, LeastBandAnswer, build_synopsis, least_band};
+use build::{BuiltSynopsis, build_synopsis, least_band};
 use printing::{
-    print, print_call, print_count_after, print_number_after, print_refusal, print_term,
+    print, print_call, print_count_after, print_number_after, print_outcome, print_term,
     print_unchanged,
 };
+use refusals::Refusal;
 use std::io;
 use std::io::Write;
 
@@ -36,25 +37,22 @@ fn lengths(out: &mut impl Write) -> io::Result<()> {
     build(out, b"513 slots", &setpoints, 0, 0, 1024, SCRATCH)?;
     build(out, b"512 slots", &setpoints[..512], 0, 0, 1024, SCRATCH)?;
     refuse(out, b"513 slots, all else wrong", &setpoints, 20001, -1)?;
-    refuse(out, b"no slots", &setpoints[..0], 20001, -1)
+    refuse(out, b"no slots", &[], 20001, -1)
 }
 
 // Rest values beyond their limits.
 fn rest_values(out: &mut impl Write) -> io::Result<()> {
-    let above = [0i16, 20001];
     let limits = [-20000i16, 20000];
-    refuse(out, b"a rest value above", &above, 20001, -1)?;
+    refuse(out, b"a rest value above", &[0, 20001], 20001, -1)?;
     refuse(out, b"a rest value below", &limits, -20001, -1)?;
-    refuse(out, b"the least rest value", &limits, -2147483648, -1)
+    refuse(out, b"the least rest value", &limits, i32::MIN, -1)
 }
 
+// Setpoints beyond their limits.
 fn setpoints_beyond(out: &mut impl Write) -> io::Result<()> {
-    let above = [0i16, 20001];
-    let below = [-20001i16, 0];
-    let least = [-32768i16];
-    refuse(out, b"a setpoint above", &above, 20000, -1)?;
-    refuse(out, b"a setpoint below", &below, -20000, 40001)?;
-    refuse(out, b"the least setpoint", &least, 0, 40001)
+    refuse(out, b"a setpoint above", &[0, 20001], 20000, -1)?;
+    refuse(out, b"a setpoint below", &[-20001, 0], -20000, 40001)?;
+    refuse(out, b"the least setpoint", &[i16::MIN], 0, 40001)
 }
 
 // Bands beyond their limits, and all numbers at theirs.
@@ -90,27 +88,27 @@ fn too_few_places(out: &mut impl Write) -> io::Result<()> {
     build(out, b"both too few", &three, 0, 0, 3, SCRATCH - 1)
 }
 
+// Just as much memory as it takes, and more.
 fn just_enough(out: &mut impl Write) -> io::Result<()> {
-    let three = [1i16, 2, 3];
-    build(out, b"both just enough", &three, 0, 0, 4, SCRATCH)?;
     let four = [1i16, 2, 3, 4];
+    build(out, b"both just enough", &four[..3], 0, 0, 4, SCRATCH)?;
     build(out, b"a term in every place", &four, 0, 0, 4, SCRATCH)?;
     build(out, b"both to spare", &four[..2], 0, 0, 1024, SCRATCH + 1)
 }
 
+// Slots, a rest value and a setpoint beyond their limits, with a budget beyond its own and no scratch.
 fn least_band_profiles(out: &mut impl Write) -> io::Result<()> {
-    let setpoints = [20001i16; 513];
-    let three = [1i16, 2, 3];
-    find_band(out, b"513 slots", &setpoints, 20001, 1024, 0)?;
-    find_band(out, b"no slots", &setpoints[..0], 20001, 1024, 0)?;
-    find_band(out, b"a rest value above", &three, 20001, 1024, 0)?;
-    find_band(out, b"a setpoint above", &setpoints[..1], 20000, 1024, 0)
+    find_band(out, b"513 slots", &[20001; 513], 20001, 1024, 0)?;
+    find_band(out, b"no slots", &[], 20001, 1024, 0)?;
+    find_band(out, b"a rest value above", &[1, 2, 3], 20001, 1024, 0)?;
+    find_band(out, b"a setpoint above", &[20001], 20000, 1024, 0)
 }
 
+// Budgets beyond their limit, and too little scratch and just enough.
 fn least_band_budgets(out: &mut impl Write) -> io::Result<()> {
     let three = [1i16, 2, 3];
     find_band(out, b"a budget above", &three, 0, 1024, 0)?;
-    find_band(out, b"the greatest budget", &three, 0, 4294967295, SCRATCH)?;
+    find_band(out, b"the greatest budget", &three, 0, u32::MAX, SCRATCH)?;
     find_band(
         out,
         b"a scratch number too few",
@@ -139,22 +137,20 @@ pub fn build_for(
     let mut nodes = [9u16; 1024];
     let mut values = [9i16; 1024];
     let mut scratch = [9i16; 12289];
-    let answer = build_in(
+    let answer = build_synopsis(
         setpoints,
         rest,
         band,
         specials,
         own,
-        &mut nodes,
-        &mut values,
-        &mut scratch,
-        places,
-        numbers,
+        &mut nodes[..places],
+        &mut values[..places],
+        &mut scratch[..numbers],
     );
     print_call(out, b"build ", what)?;
     print_built(out, answer)?;
     print_terms(out, &nodes, &values, 5)?;
-    print_scratch(out, answer.refusal, &scratch)
+    print_scratch(out, answer.is_err(), &scratch)
 }
 
 // The same, with a special slot that is wrong for every number of slots, no place for a term and no scratch.
@@ -165,13 +161,11 @@ fn refuse(
     rest: i32,
     band: i32,
 ) -> io::Result<()> {
-    let slots = [600u16; 1];
-    let own = [40001u16; 1];
-    build_for(out, what, setpoints, rest, band, &slots, &own, 0, 0)
+    build_for(out, what, setpoints, rest, band, &[600], &[40001], 0, 0)
 }
 
 // The same, with no special slots.
-pub fn build(
+fn build(
     out: &mut impl Write,
     what: &[u8],
     setpoints: &[i16],
@@ -182,46 +176,7 @@ pub fn build(
 ) -> io::Result<()>
     requires { (places ≤ 1024) × (numbers ≤ 12289) }
 {
-    let slots = [0u16; 1];
-    let own = [0u16; 1];
-    build_for(
-        out,
-        what,
-        setpoints,
-        rest,
-        band,
-        &slots[..0],
-        &own[..0],
-        places,
-        numbers,
-    )
-}
-
-// Lends the first places of the destinations and the first numbers of scratch to building.
-fn build_in(
-    setpoints: &[i16],
-    rest: i32,
-    band: i32,
-    specials: &[u16],
-    own: &[u16],
-    nodes: &mut [u16],
-    values: &mut [i16],
-    scratch: &mut [i16],
-    places: usize,
-    numbers: usize,
-) -> BuildAnswer
-    requires { (length specials.now ≡ length own.now) × (places ≤ length nodes.old) × (places ≤ length values.old) × (numbers ≤ length scratch.old) }
-{
-    build_synopsis(
-        setpoints,
-        rest,
-        band,
-        specials,
-        own,
-        &mut nodes[..places],
-        &mut values[..places],
-        &mut scratch[..numbers],
-    )
+    build_for(out, what, setpoints, rest, band, &[], &[], places, numbers)
 }
 
 // What is lent; then the refusal's number, the least band and scratch.
@@ -236,28 +191,15 @@ fn find_band(
     requires { numbers ≤ 12288 }
 {
     let mut scratch = [9i16; 12288];
-    let answer = find_in(setpoints, rest, budget, &mut scratch, numbers);
+    let answer = least_band(setpoints, rest, budget, &mut scratch[..numbers]);
     print_call(out, b"least band ", what)?;
     print_found(out, answer)?;
-    print_scratch(out, answer.refusal, &scratch)
-}
-
-// Lends the first numbers of scratch to the search.
-fn find_in(
-    setpoints: &[i16],
-    rest: i32,
-    budget: u32,
-    scratch: &mut [i16],
-    numbers: usize,
-) -> LeastBandAnswer
-    requires { numbers ≤ length scratch.old }
-{
-    least_band(setpoints, rest, budget, &mut scratch[..numbers])
+    print_scratch(out, answer.is_err(), &scratch)
 }
 
 // Ends a line with what a refusal left in scratch; after a success that is open.
-fn print_scratch(out: &mut impl Write, refusal: u8, scratch: &[i16]) -> io::Result<()> {
-    if 0 < refusal {
+fn print_scratch(out: &mut impl Write, refused: bool, scratch: &[i16]) -> io::Result<()> {
+    if refused {
         print(out, b" scratch")?;
         print_unchanged(out, scratch, 9)?;
     }
@@ -265,26 +207,28 @@ fn print_scratch(out: &mut impl Write, refusal: u8, scratch: &[i16]) -> io::Resu
 }
 
 // Prints the first `count` terms.
-fn print_terms(out: &mut impl Write, nodes: &[u16], values: &[i16], count: usize) -> io::Result<()>
-    requires { (count ≤ length nodes.now) × (count ≤ length values.now) }
-{
-    let mut i = 0;
-    while i < count {
-        print_term(out, nodes[i], values[i])?;
-        i += 1;
+fn print_terms(
+    out: &mut impl Write,
+    nodes: &[u16],
+    values: &[i16],
+    count: usize,
+) -> io::Result<()> {
+    for (node, value) in nodes.iter().zip(values).take(count) {
+        print_term(out, *node, *value)?;
     }
     Ok(())
 }
 
 // Prints the refusal's number, the count and the greatest error.
-fn print_built(out: &mut impl Write, answer: BuildAnswer) -> io::Result<()> {
-    print_refusal(out, answer.refusal)?;
-    print_count_after(out, b" ", answer.count)?;
-    print_number_after(out, b" ", answer.error as i32)
+fn print_built(out: &mut impl Write, answer: Result<BuiltSynopsis, Refusal>) -> io::Result<()> {
+    print_outcome(out, &answer)?;
+    let built = answer.unwrap_or(BuiltSynopsis { count: 0, error: 0 });
+    print_count_after(out, b" ", built.count)?;
+    print_number_after(out, b" ", i32::from(built.error))
 }
 
 // Prints the refusal's number and the least band.
-fn print_found(out: &mut impl Write, answer: LeastBandAnswer) -> io::Result<()> {
-    print_refusal(out, answer.refusal)?;
-    print_number_after(out, b" ", answer.band as i32)
+fn print_found(out: &mut impl Write, answer: Result<u16, Refusal>) -> io::Result<()> {
+    print_outcome(out, &answer)?;
+    print_number_after(out, b" ", i32::from(answer.unwrap_or(0)))
 }

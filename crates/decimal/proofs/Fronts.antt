@@ -2,9 +2,8 @@
 use Rattle.std.proofs.Common.{◌≡◌, ℕ, ◌+◌, ◌≤◌, true, false, ◌||◌, eqb, List, length, get_or, take, refl, arith}
 use mathlib.Core.Bool.{or-true}
 use mathlib.Core.Option.{Option, none}
-use lib.ListN.{get_or-eq_default}
 use Rattle.decimal.specs.Number.{is_digit, is_mark}
-use Rattle.decimal.specs.Inner.{in_number, FrontRead, DigitRead}
+use Rattle.decimal.specs.Inner.{in_number, FrontRead}
 
 pub digit_in : (byte : ℕ) → is_digit byte ≡ true → in_number byte ≡ true
 digit_in byte a_digit = rw a_digit
@@ -22,9 +21,6 @@ not_both byte is-in is-out = let broken : ◌≡◌ {A = ℕ} 0 1 = cc in omega 
 -- where there is no byte, there is no digit
 pub no_byte : is_digit 0 ≡ true → ⊥
 no_byte a_digit = not_both 0 (digit_in 0 a_digit) refl
-
-pub no_digit_there : (bytes : List ℕ) (at : ℕ) → length bytes ≤ at → DigitRead (get_or bytes at 0) 10
-no_digit_there bytes at past = rw (get_or-eq_default bytes 0 {n = at} past) (record { digit_is = λ small. absurd (omega arith); no_digit = λ large. refl })
 
 pub none_in_front : {A : Type 0} {meant : List ℕ → Option A} (bytes : List ℕ) (number : A)
     → ((place : ℕ) → place ≤ length bytes → in_number (get_or bytes place 0) ≡ false → meant (take place bytes) ≡ none) → FrontRead meant bytes number (length bytes + 1)

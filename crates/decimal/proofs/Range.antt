@@ -5,7 +5,7 @@ use Rattle.limits.proofs.Tests.{both_hold}
 use Rattle.decimal.specs.Number.{is_digit, digit, is_mark, most_digits, leading_digits, decimal, hundredths, fraction, added, unsigned, negated, signed, reads_as}
 use Rattle.decimal.specs.Answers.{number_or}
 
-digit_small : (byte : ℕ) → is_digit byte ≡ true → digit byte ≤ 9
+pub digit_small : (byte : ℕ) → is_digit byte ≡ true → digit byte ≤ 9
 digit_small byte a_digit = omega (arith, leb-true byte 57 (both_hold (leb 48 byte) (leb byte 57) a_digit).1)
 
 -- more digits never make a number smaller

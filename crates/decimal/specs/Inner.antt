@@ -1,7 +1,7 @@
 -- What inner functions promise. A reader of the promises need not open this file.
 use Rattle.std.specs.Prelude.{◌≡◌, ℕ, ◌+◌, ◌*◌, ◌<◌, ◌≤◌, Bool, true, false, ◌||◌, List, ◌++◌, length, take, ◌==◌, ◌≢◌, slice_index}
 use Rattle.std.proofs.Math.Option.{Option, none, some}
-use Rattle.decimal.specs.Number.{is_digit, digit, is_mark, most_digits, leading_digits, decimal, fraction, added}
+use Rattle.decimal.specs.Number.{is_digit, is_mark, most_digits, leading_digits, decimal, fraction, added}
 
 -- whether numbers are written with a byte
 abbrev pub in_number : ℕ → Bool
@@ -35,16 +35,11 @@ pub record Marked (bytes : List ℕ) (most : ℕ) : Type 0 where
   pub at_mark : is_mark (slice_index bytes 0) ≡ true
   pub most_is : most ≡ most_digits (slice_index bytes 0)
 
--- the number that a digit stands for, and 10 or more for any other byte
-pub record DigitRead (byte number : ℕ) : Type 0 where
-  pub digit_is : number < 10 → (is_digit byte ≡ true) × (number ≡ digit byte)
-  pub no_digit : 10 ≤ number → is_digit byte ≡ false
-
--- the three digits after a mark
+-- the three bytes after a mark, each 0 where none is
 pub record DigitsRead (bytes : List ℕ) (tenths hundredths thousandths : ℕ) : Type 0 where
-  pub first : DigitRead (slice_index bytes 1) tenths
-  pub second : DigitRead (slice_index bytes 2) hundredths
-  pub third : DigitRead (slice_index bytes 3) thousandths
+  pub first : tenths ≡ slice_index bytes 1
+  pub second : hundredths ≡ slice_index bytes 2
+  pub third : thousandths ≡ slice_index bytes 3
 
 -- the bytes of a text of `count` bytes that stands at the front of an array
 abbrev pub held : List ℕ → ℕ → List ℕ

@@ -1,15 +1,11 @@
 // Reading a number: at the front of some bytes, or as a field to its last byte.
-ghost use Rattle.std.specs.Prelude.{◌≡◌, ◌+◌, ◌*◌, ◌<◌, ◌≤◌, length, ◌==◌, slice_index};
-ghost use Rattle.decimal.specs.Number.{rounded, unsigned, reads_as};
+ghost use Rattle.std.specs.Prelude.{◌≡◌, ◌+◌, ◌*◌, ◌<◌, ◌≤◌, true, length, pos, slice_index, SomeIff};
+ghost use Rattle.refusals.specs.Answers.{refused_with, answered};
+ghost use Rattle.decimal.specs.Number.{is_digit, digit, rounded, unsigned, reads_as};
 ghost use Rattle.decimal.specs.Answers.{NumberRead};
-ghost use Rattle.decimal.specs.Inner.{FrontRead, PartRead, UnitsRead, Marked, DigitRead, DigitsRead, with_units};
+ghost use Rattle.decimal.specs.Inner.{FrontRead, PartRead, UnitsRead, Marked, DigitsRead, with_units};
 
-// A number that was read, or the refusal 1 with 0.
-#[derive(Clone, Copy)]
-pub struct NumberAnswer {
-    pub refusal: u8,
-    pub number: i32,
-}
+use refusals::Refusal;
 
 // The number that some bytes begin with, and how many of them it takes.
 // Where there is none, the count is beyond the bytes, so that it is no field's length and no byte follows it.
@@ -19,35 +15,30 @@ pub struct Front {
     pub count: usize,
 }
 
-// The same without a sign.
+// The same without a sign. An `Option` of it would say that there is none, but come back in memory and not in two registers: 4 to 14 instructions more a number.
 #[derive(Drop)]
 struct Part {
     pub number: u32,
     pub count: usize,
 }
 
-// The three digits after a mark, each 10 or more where none is.
+// The three bytes after a mark, each 0 where none is.
 #[derive(Drop)]
 struct Digits {
-    pub tenths: u32,
-    pub hundredths: u32,
-    pub thousandths: u32,
+    pub tenths: u8,
+    pub hundredths: u8,
+    pub thousandths: u8,
 }
 
 // The number that a field reads as, in hundredths.
-pub fn read_number(field: &[u8]) -> NumberAnswer
-    ensures { NumberRead field.now result.refusal result.number }
+pub fn read_number(field: &[u8]) -> Result<i32, Refusal>
+    ensures { NumberRead field.now (refused_with result) (answered (pos 0) result) }
 {
     let front = read_front(field);
     if front.count == field.len() {
-        return NumberAnswer {
-            refusal: 0,
-            number: front.number,
-        };
-    }
-    NumberAnswer {
-        refusal: limits::NOT_A_NUMBER,
-        number: 0,
+        Ok(front.number)
+    } else {
+        Err(Refusal::NotANumber)
     }
 }
 
@@ -55,10 +46,10 @@ pub fn read_number(field: &[u8]) -> NumberAnswer
 pub fn read_front(bytes: &[u8]) -> Front
     ensures { FrontRead reads_as bytes.now result.number result.count }
 {
-    if begins_with(bytes, b'-') {
-        let part = read_unsigned(&bytes[1..]);
+    if let [b'-', plain @ ..] = bytes {
+        let part = read_unsigned(plain);
         return Front {
-            number: 0 - (part.number as i32),
+            number: -(part.number as i32),
             count: part.count + 1,
         };
     }
@@ -91,22 +82,19 @@ fn read_unsigned(bytes: &[u8]) -> Part
 fn read_units(bytes: &[u8]) -> Part
     ensures { UnitsRead bytes.now result.count result.number }
 {
-    let mut count = 0;
     let mut units: u32 = 0;
-    while count < 3 {
-        let digit = digit_at(bytes, count);
-        if 10 <= digit {
+    for count in 0..3 {
+        let Some(digit) = digit_at(bytes, count) else {
             return Part {
                 number: units,
-                count: count,
+                count,
             };
-        }
+        };
         units = units * 10 + digit;
-        count += 1;
     }
     Part {
         number: units,
-        count: count,
+        count: 3,
     }
 }
 
@@ -116,15 +104,13 @@ fn read_fraction(units: u32, bytes: &[u8]) -> Part
     requires { units ≤ 999 }
     ensures { PartRead (with_units units) bytes.now result.number result.count }
 {
-    if begins_with(bytes, b'.') {
-        return after_mark(units, bytes, 2);
-    }
-    if begins_with(bytes, b',') {
-        return after_mark(units, bytes, 3);
-    }
-    Part {
-        number: units * 100,
-        count: 0,
+    match bytes {
+        [b'.', ..] => after_mark(units, bytes, 2),
+        [b',', ..] => after_mark(units, bytes, 3),
+        _ => Part {
+            number: units * 100,
+            count: 0,
+        },
     }
 }
 
@@ -134,46 +120,44 @@ fn after_mark(units: u32, bytes: &[u8], most: usize) -> Part
     ensures { PartRead (with_units units) bytes.now result.number result.count }
 {
     let digits = digits_after(bytes);
-    if 10 <= digits.tenths {
+    let Some(tenths) = digit_of(digits.tenths) else {
         return no_number(bytes);
-    }
-    if 10 <= digits.hundredths {
+    };
+    let one = (units * 10 + tenths) * 10;
+    let Some(hundredths) = digit_of(digits.hundredths) else {
         return Part {
-            number: units * 100 + digits.tenths * 10,
+            number: one,
             count: 2,
         };
-    }
-    let two = Part {
-        number: units * 100 + digits.tenths * 10 + digits.hundredths,
-        count: 3,
     };
-    if most < 3 {
-        return two;
-    }
-    if 10 <= digits.thousandths {
-        return two;
-    }
-    Part {
-        number: rounded_by(two.number, digits.thousandths),
-        count: 4,
+    let two = one + hundredths;
+    match digit_of(digits.thousandths) {
+        Some(thousandths) if 3 <= most => Part {
+            number: rounded_by(two, thousandths),
+            count: 4,
+        },
+        _ => Part {
+            number: two,
+            count: 3,
+        },
     }
 }
 
-// The digits after a mark. Fewer than four bytes have no third one; for more the length is asked once, and not for each digit.
+// The bytes after a mark. Fewer than four bytes have no third one; for more the length is asked once, and not for each digit.
 fn digits_after(bytes: &[u8]) -> Digits
     ensures { DigitsRead bytes.now result.tenths result.hundredths result.thousandths }
 {
-    if bytes.len() < 4 {
-        return Digits {
-            tenths: digit_at(bytes, 1),
-            hundredths: digit_at(bytes, 2),
-            thousandths: 10,
-        };
-    }
-    Digits {
-        tenths: digit_of(bytes[1]),
-        hundredths: digit_of(bytes[2]),
-        thousandths: digit_of(bytes[3]),
+    match bytes {
+        [_, tenths, hundredths, thousandths, ..] => Digits {
+            tenths: *tenths,
+            hundredths: *hundredths,
+            thousandths: *thousandths,
+        },
+        _ => Digits {
+            tenths: byte_at(bytes, 1),
+            hundredths: byte_at(bytes, 2),
+            thousandths: 0,
+        },
     }
 }
 
@@ -198,30 +182,26 @@ fn no_number(bytes: &[u8]) -> Part
     }
 }
 
-// The number that the digit at a place stands for, and 10 or more where no digit is.
-fn digit_at(bytes: &[u8], at: usize) -> u32
-    ensures { DigitRead (slice_index bytes.now at) result }
+// The byte at a place, and 0 where none is. Not by `get`: firmware/audit refuses a pointer in an `Option`.
+fn byte_at(bytes: &[u8], at: usize) -> u8
+    ensures { result ≡ slice_index bytes.now at }
 {
-    if bytes.len() <= at {
-        return 10;
-    }
-    digit_of(bytes[at])
+    if at < bytes.len() { bytes[at] } else { 0 }
 }
 
-// The number that a digit stands for, and 10 or more for any other byte: those below `0` wrap to large numbers.
-fn digit_of(byte: u8) -> u32
-    ensures { DigitRead byte result }
+// The digit at a place, where one is.
+fn digit_at(bytes: &[u8], at: usize) -> Option<u32>
+    ensures { SomeIff result (is_digit (slice_index bytes.now at) ≡ true) (digit (slice_index bytes.now at)) }
 {
-    std::num::wrapping_sub_u8(byte, b'0') as u32
+    digit_of(byte_at(bytes, at))
 }
 
-// Whether some bytes begin with a byte that is not 0.
-fn begins_with(bytes: &[u8], byte: u8) -> bool
-    requires { 0 < byte }
-    ensures { result ≡ (slice_index bytes.now 0 == byte) }
+// The digit that a byte stands for, where it stands for one.
+fn digit_of(byte: u8) -> Option<u32>
+    ensures { SomeIff result (is_digit byte ≡ true) (digit byte) }
 {
-    if bytes.len() == 0 {
-        return false;
+    match byte {
+        b'0'..=b'9' => Some(u32::from(byte - b'0')),
+        _ => None,
     }
-    bytes[0] == byte
 }

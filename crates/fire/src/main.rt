@@ -9,7 +9,8 @@ use build::build_first;
 use decimal::write::write_number;
 use histogram::restore::restore_profile;
 use printing::{print, print_count};
-use profile::{TextAnswer, read_text};
+use profile::{TextNumbers, read_text};
+use refusals::Refusal;
 use std::io;
 use std::io::{Read, Write};
 
@@ -22,6 +23,7 @@ fn main(rt: HostRuntime) -> io::Result<()> {
 }
 
 // Reads until the places are full or the input ends, and answers how many bytes it put at their start.
+// `read_exact` would fail where the input ends first, and a `for` cannot step by what was read.
 fn read_full<R: Read>(input: &mut R, places: &mut [u8]) -> io::Result<usize>
     ensures within { IfOk result (λ count. count ≤ length places.new) }
     ensures bytes { IfOk result (λ count. Consumes (R.remaining input.old) (R.remaining input.new) (take count places.new)) }
@@ -41,12 +43,13 @@ fn read_full<R: Read>(input: &mut R, places: &mut [u8]) -> io::Result<usize>
 fn fire(out: &mut impl Write, text: &[u8]) -> io::Result<()> {
     let mut setpoints = [0i16; 512];
     let mut bands = [0u16; 512];
-    let read = read_text(text, &mut setpoints, &mut bands);
-    if 0 < read.refusal {
-        return print_refused(out, read.refusal);
+    match read_text(text, &mut setpoints, &mut bands) {
+        Ok(numbers) => {
+            let slots = numbers.slots;
+            fire_profile(out, &setpoints[..slots], &bands[..slots], numbers)
+        }
+        Err(refusal) => print_refused(out, refusal),
     }
-    let slots = read.slots;
-    fire_profile(out, &setpoints[..slots], &bands[..slots], read)
 }
 
 // Building refuses no profile that was read. The band printed is the common one.
@@ -54,7 +57,7 @@ fn fire_profile(
     out: &mut impl Write,
     setpoints: &[i16],
     bands: &[u16],
-    numbers: TextAnswer,
+    numbers: TextNumbers,
 ) -> io::Result<()>
     requires { KnownProfile setpoints.now bands.now numbers.rest numbers.band numbers.specials }
 {
@@ -95,10 +98,8 @@ fn print_synopsis(
     print_slots(out, slots, rest, nodes, values)
 }
 
-fn print_refused(out: &mut impl Write, refusal: u8) -> io::Result<()> {
-    print(out, b"refused ")?;
-    print_count(out, refusal as usize)?;
-    print(out, b"\n")
+fn print_refused(out: &mut impl Write, refusal: Refusal) -> io::Result<()> {
+    writeln!(out, "refused {refusal}")
 }
 
 fn print_summary(
@@ -114,25 +115,17 @@ fn print_summary(
     print(out, b" ")?;
     print_hundredths(out, band)?;
     print(out, b" ")?;
-    print_hundredths(out, error as i32)?;
+    print_hundredths(out, i32::from(error))?;
     print(out, b"\n")
 }
 
 fn print_terms(out: &mut impl Write, nodes: &[u16], values: &[i16]) -> io::Result<()>
     requires { length nodes.now ≡ length values.now }
 {
-    let mut i = 0;
-    while i < nodes.len() {
-        let node = nodes[i];
-        let value = values[i];
-        print_line(out, b"term ", wide(node), value)?;
-        i += 1;
+    for (node, value) in nodes.iter().zip(values) {
+        print_line(out, b"term ", usize::from(*node), *value)?;
     }
     Ok(())
-}
-
-fn wide(node: u16) -> usize {
-    node as usize
 }
 
 fn print_slots(
@@ -145,12 +138,10 @@ fn print_slots(
     requires { (slots ≤ 512) × (length nodes.now ≡ length values.now) }
 {
     let mut restored = [0i16; 512];
-    restore_profile(slots, rest, nodes, values, &mut restored);
-    let mut slot = 0;
-    while slot < slots {
-        let value = restored[slot];
-        print_line(out, b"slot ", slot, value)?;
-        slot += 1;
+    // Nothing refuses a synopsis that was built.
+    let _ = restore_profile(slots, rest, nodes, values, &mut restored);
+    for (slot, value) in restored[..slots].iter().enumerate() {
+        print_line(out, b"slot ", slot, *value)?;
     }
     Ok(())
 }
@@ -159,13 +150,12 @@ fn print_line(out: &mut impl Write, name: &[u8], number: usize, value: i16) -> i
     print(out, name)?;
     print_count(out, number)?;
     print(out, b" ")?;
-    print_hundredths(out, value as i32)?;
+    print_hundredths(out, i32::from(value))?;
     print(out, b"\n")
 }
 
 fn print_hundredths(out: &mut impl Write, number: i32) -> io::Result<()> {
     let mut text = [0u8; 8];
-    let written = write_number(number, &mut text);
-    let count = written.count;
+    let count = write_number(number, &mut text).unwrap_or(0);
     print(out, &text[..count])
 }

@@ -8,15 +8,13 @@ use std::io::Write;
 
 fn main(rt: HostRuntime) -> io::Result<()> {
     let mut out = rt.stdout();
-    let mut step = 0;
-    while step < 401 {
-        print_flow(&mut out, FLOWS[step])?;
-        step += 1;
+    for flow in FLOWS {
+        print_flow(&mut out, flow)?;
     }
     Ok(())
 }
 
 fn print_flow(out: &mut impl Write, flow: u16) -> io::Result<()> {
-    print_count(out, flow as usize)?;
+    print_count(out, usize::from(flow))?;
     print(out, b"\n")
 }

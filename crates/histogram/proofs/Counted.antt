@@ -7,7 +7,7 @@ use native.Mathlib.Omega.{arith}
 use lib.ListN.{length, get_or, take, drop, length-append, length-drop, get_or-append}
 use lib.Seq.{get_or_at, get_or-take, get_or-drop, ext_get_or, length-take-le}
 use Rattle.histogram.specs.Restored.{counted}
-use Rattle.histogram.proofs.Order.{below_or_not}
+use Rattle.std.proofs.lemmas.Bool.{cases_lt}
 
 module _ {ℓ} {A : Type ℓ} (f : ℕ → A) where
   pub length_counted : (count : ℕ) → length (counted f count) ≡ count
@@ -26,7 +26,7 @@ module _ {ℓ} {A : Type ℓ} (f : ℕ → A) where
       ⊎_elim
       (λ before. get_or-append (counted f count) (f count ∷ []) otherwise k (omega (arith, length_counted count)) ∙ get_d_counted otherwise count k before)
       (λ from. let last : k ≡ count = omega arith in rw last (last_counted otherwise count))
-      (below_or_not k count)
+      (cases_lt k count)
 
   -- a part of a list, as code lends it from `start` to `start + count`
   module _ (otherwise : A) (whole : List A) (start count : ℕ) (within : start + count ≤ length whole) where

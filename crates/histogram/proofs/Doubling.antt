@@ -5,7 +5,7 @@ use Prim.Native.Nat.{ℕ, suc, ◌*◌, ◌^◌, ◌≤◌, ◌<◌}
 use native.Mathlib.Omega.{arith}
 use lib.Pow.{pow_mono}
 use Rattle.histogram.specs.Tree.{height}
-use Rattle.histogram.proofs.Order.{below_or_not}
+use Rattle.std.proofs.lemmas.Bool.{cases_lt}
 use Rattle.histogram.proofs.Powers.{height_reaches, height_least}
 
 -- the leaves after so many doublings, all of which were needed
@@ -19,7 +19,7 @@ one_leaf slots = record { is_power = refl; not_past = omega arith }
 pub once_more : {slots times leaves : ℕ} → Doubled slots times leaves → leaves < slots → Doubled slots (suc times) (leaves * 2)
 once_more {slots} {times} before short = record {
   is_power = omega (arith, before.is_power);
-  not_past = ⊎_elim (λ less. less) (λ more. absurd (omega (arith, height_reaches slots, pow_mono more, before.is_power))) (below_or_not times (height slots));
+  not_past = ⊎_elim (λ less. less) (λ more. absurd (omega (arith, height_reaches slots, pow_mono more, before.is_power))) (cases_lt times (height slots));
 }
 
 pub doubled_enough : {slots times leaves : ℕ} → Doubled slots times leaves → slots ≤ leaves → times ≡ height slots

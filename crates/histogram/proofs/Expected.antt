@@ -15,7 +15,7 @@ use Rattle.histogram.specs.Restored.{restored, restored_at, restored_slot, path_
 use Rattle.histogram.specs.Errors.{greatest}
 use Rattle.histogram.proofs.Above.{from_above}
 use Rattle.histogram.proofs.Ascent.{ValidFrom, first_above, rest_valid}
-use Rattle.histogram.proofs.Order.{below_or_not}
+use Rattle.std.proofs.lemmas.Bool.{cases_lt}
 
 module _ (otherwise : ℤ) (first : Term) (others : List Term) where
   found_first : term_or otherwise (first ∷ others) first.node ≡ first.value
@@ -65,7 +65,7 @@ under_root rest value (suc bound) node low from =
     ∙ ⊎_elim
     (λ below. rw (ne_eqb 1 node (λ same. omega arith)) (under_root rest value bound (node / 2) (omega arith) (omega arith)))
     (λ at_root. rw (eq-eqb 1 node (omega arith)))
-    (below_or_not 1 node)
+    (cases_lt 1 node)
 
 -- under a term at the root alone every slot restores the root's value
 pub root_alone : (n : ℕ) (rest value : ℤ) (slot : ℕ) → restored_slot n rest (root_term value) slot ≡ value
@@ -83,4 +83,4 @@ each_within f (suc count) k below =
     ⊎_elim
     (λ before. omega (arith, each_within f count k before))
     (λ from. let last : k ≡ count = omega arith in omega (arith, ap f last))
-    (below_or_not k count)
+    (cases_lt k count)

@@ -12,14 +12,16 @@ use lib.IntN.{ℤ, pos}
 use lib.ListN.{length, get_or, set, drop_of_length-le, length-set}
 use lib.Seq.{get_or-set_same, get_or-set_other}
 use borrow.Author.Tests.{lt-ltb, le-ltb, eq-eqb, ne_eqb, eqb-true, eqb-false}
+use Rattle.std.proofs.Common.{true≢false, unwrap_or, Option, Some, None}
+use Rattle.std.specs.Option.{is_some}
 use Rattle.histogram.specs.declared.Term.{Term}
 use Rattle.histogram.specs.Terms.{paired, valid_from, term_or}
 use Rattle.histogram.specs.Restored.{restored_at}
-use Rattle.histogram.specs.Inner.{is_next, Fed, Handing, HandedDown}
+use Rattle.histogram.specs.Inner.{is_next, fed, Handing, HandedDown}
 use Rattle.histogram.proofs.Above.{at_no_node, from_above}
 use Rattle.histogram.proofs.Ascent.{ValidFrom, first_above, rest_valid, valid_above, no_term}
 use Rattle.histogram.proofs.Paired.{onwards, term_at, term_there}
-use Rattle.histogram.proofs.Order.{below_or_not}
+use Rattle.std.proofs.lemmas.Bool.{cases_lt}
 
 -- what a node does with the terms from `next` on, where it takes the first of them or does not
 record Passed (nodes : List ℕ) (values : List ℤ) (end node next : ℕ) (taken : Bool) : Type 0 where
@@ -59,7 +61,7 @@ module _ (nodes : List ℕ) (values : List ℤ) (next : ℕ) {end last node : �
       ⊎_elim
       (λ there. rw (lt-ltb next (length nodes) there) (split there (eqb (get_or nodes next 0) node) refl))
       (λ past. rw (le-ltb next (length nodes) past) (ends past))
-      (below_or_not next (length nodes))
+      (cases_lt next (length nodes))
     where
       split : next < length nodes → (test : Bool) → eqb (get_or nodes next 0) node ≡ test → Passed nodes values end node next test
       split there true answer = takes there (eqb-true _ _ answer)
@@ -92,22 +94,22 @@ handed_rest rest nodes values end before handing = record {
 }
 
 module _ {rest : ℤ} {nodes : List ℕ} {values : List ℤ} {end : ℕ} {before restored : List ℤ} {next node : ℕ} (handed : Handed rest nodes values end before restored next node) where
-  node_passed : length nodes ≡ length values → Passed nodes values end node next (is_next nodes next node)
-  node_passed same = passed nodes values next same handed.node_is handed.valid
+  -- the value that a node gets
+  abbrev value_of : Bool → ℤ
+  value_of taken = cond taken (get_or values next (pos 0)) (get_or restored (node / 2) (pos 0))
 
-  own_value : length nodes ≡ length values → {value : ℤ} {after : ℕ} → Fed nodes values next node (get_or restored (node / 2) (pos 0)) value after
-      → value ≡ restored_at rest (paired nodes values) node
-  own_value same fed =
+  own_value : {taken : Bool} → Passed nodes values end node next taken → value_of taken ≡ restored_at rest (paired nodes values) node
+  own_value by_node =
       let node_is = handed.node_is in
-      fed.value_is
-      ∙ sym ((node_passed same).value (get_or restored (node / 2) (pos 0)))
+      sym (by_node.value (get_or restored (node / 2) (pos 0)))
       ∙ sym (handed.later (get_or restored (node / 2) (pos 0)) node (omega arith))
       ∙ ap (λ (above : ℤ). term_or above (paired nodes values) node) (handed.each_before (node / 2) (omega arith))
       ∙ sym (from_above rest (paired nodes values) node (omega arith))
 
-  pub handed_on_lem : length nodes ≡ length values → node < end → {value : ℤ} {after : ℕ} → Fed nodes values next node (get_or restored (node / 2) (pos 0)) value after
-      → Handed rest nodes values end before (set restored node value) after (node + 1)
-  handed_on_lem same inside {value} {after} fed =
+  handed_on : node < end → {taken : Bool} → Passed nodes values end node next taken
+      → Handed rest nodes values end before (set restored node (value_of taken)) (cond taken (next + 1) next) (node + 1)
+  handed_on inside {taken} by_node =
+      let value = value_of taken in
       let room = handed.room in
       record {
         last = node;
@@ -117,12 +119,31 @@ module _ {rest : ℤ} {nodes : List ℕ} {values : List ℤ} {end : ℕ} {before
         each_before = λ k below.
             ⊎_elim
             (λ before. get_or-set_other restored node k value (pos 0) (λ same_place. omega arith) ∙ handed.each_before k before)
-            (λ from. let here : k ≡ node = omega arith in rw here (get_or-set_same restored node value (pos 0) (omega arith) ∙ own_value same fed))
-            (below_or_not k node);
+            (λ from. let here : k ≡ node = omega arith in rw here (get_or-set_same restored node value (pos 0) (omega arith) ∙ own_value by_node))
+            (cases_lt k node);
         each_past = λ k from. get_or-set_other restored node k value (pos 0) (λ same_place. omega arith) ∙ handed.each_past k (omega arith);
-        later = λ otherwise after from. handed.later otherwise after (omega arith) ∙ rw fed.next_is ((node_passed same).later otherwise after (omega arith));
-        valid = rw fed.next_is (node_passed same).valid;
+        later = λ otherwise after from. handed.later otherwise after (omega arith) ∙ by_node.later otherwise after (omega arith);
+        valid = by_node.valid;
       }
+
+  -- the pass after a node, where the next term is the node's, and where it is not
+  pub handed_own : length nodes ≡ length values → node < end → {value : ℤ} → Some value ≡ fed nodes values next node
+      → Handed rest nodes values end before (set restored node value) (next + 1) (node + 1)
+  handed_own same inside {value} is_fed = split (is_next nodes next node) (passed nodes values next same handed.node_is handed.valid) is_fed
+    where
+      split : (taken : Bool) → Passed nodes values end node next taken → Some value ≡ cond taken (Some (get_or values next (pos 0))) None
+          → Handed rest nodes values end before (set restored node value) (next + 1) (node + 1)
+      split true by_node is_fed = rw (ap (λ (own : Option ℤ). unwrap_or own (pos 0)) is_fed) (handed_on inside by_node)
+      split false by_node is_fed = absurd (true≢false (ap (λ (own : Option ℤ). is_some own) is_fed))
+
+  pub handed_above : length nodes ≡ length values → node < end → None ≡ fed nodes values next node
+      → Handed rest nodes values end before (set restored node (get_or restored (node / 2) (pos 0))) next (node + 1)
+  handed_above same inside is_fed = split (is_next nodes next node) (passed nodes values next same handed.node_is handed.valid) is_fed
+    where
+      split : (taken : Bool) → Passed nodes values end node next taken → None ≡ cond taken (Some (get_or values next (pos 0))) None
+          → Handed rest nodes values end before (set restored node (get_or restored (node / 2) (pos 0))) next (node + 1)
+      split true by_node is_fed = absurd (true≢false (sym (ap (λ (own : Option ℤ). is_some own) is_fed)))
+      split false by_node is_fed = handed_on inside by_node
 
 -- the pass at its end; its first step was to put the rest value at place 0
 pub handed_down : {rest : ℤ} {nodes : List ℕ} {values : List ℤ} {end : ℕ} {before restored : List ℤ} {next node : ℕ} → Handed rest nodes values end (set before 0 rest) restored next node

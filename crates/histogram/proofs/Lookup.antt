@@ -1,13 +1,15 @@
 -- A look-up by place: at the first place with the node stands its term, and with no such place it has none.
 use mathlib.Core.Path.{◌≡◌, refl, ◌∙◌}
 use mathlib.Core.List.{List}
-use Prim.Native.Nat.{ℕ, zero, suc, ◌<◌, ◌≤◌}
+use Prim.Native.Nat.{ℕ, zero, suc, ◌-◌, ◌/◌, ◌<◌, ◌≤◌}
 use native.Mathlib.Omega.{arith}
 use lib.IntN.{ℤ, pos}
 use lib.ListN.{length, get_or, drop_of_length-le}
 use borrow.Author.Tests.{eq-eqb, ne_eqb}
 use Rattle.histogram.specs.Terms.{paired, term_or}
-use Rattle.histogram.specs.Inner.{Found}
+use Rattle.histogram.specs.Restored.{restored, restored_at}
+use Rattle.histogram.specs.Inner.{FirstPlace, Nowhere}
+use Rattle.histogram.proofs.Above.{one_step_up}
 use Rattle.histogram.proofs.Paired.{onwards, lookup_there}
 
 module _ (nodes : List ℕ) (values : List ℤ) (same : length nodes ≡ length values) (otherwise : ℤ) where
@@ -20,12 +22,22 @@ module _ (nodes : List ℕ) (values : List ℤ) (same : length nodes ≡ length 
       ∙ lookup_there nodes values place same (omega arith) otherwise node
       ∙ rw (ne_eqb (get_or nodes place 0) node (others place (omega arith)))
 
-  pub found_term : {node place : ℕ} → Found nodes node place → place < length nodes → term_or otherwise (paired nodes values) node ≡ get_or values place (pos 0)
-  found_term {node} {place} found within =
-      passed_over node place found.within found.not_before
-      ∙ lookup_there nodes values place same within otherwise node
-      ∙ rw (eq-eqb (get_or nodes place 0) node (found.there within))
+  pub found_term : {node place : ℕ} → FirstPlace nodes node place → term_or otherwise (paired nodes values) node ≡ get_or values place (pos 0)
+  found_term {node} {place} found =
+      let within = found.within in
+      passed_over node place (omega arith) found.not_before
+      ∙ lookup_there nodes values place same found.within otherwise node
+      ∙ rw (eq-eqb (get_or nodes place 0) node found.there)
 
-  pub found_none : {node place : ℕ} → Found nodes node place → length nodes ≤ place → term_or otherwise (paired nodes values) node ≡ otherwise
+  pub found_none : {node : ℕ} → Nowhere nodes node → term_or otherwise (paired nodes values) node ≡ otherwise
   unfolding paired term_or
-  found_none {node} {place} found past = passed_over node place found.within found.not_before ∙ rw (drop_of_length-le nodes past)
+  found_none {node} found = let whole : length nodes ≤ length nodes = omega arith in passed_over node (length nodes) whole found.nowhere ∙ rw (drop_of_length-le nodes whole)
+
+-- the way up from a node, with a count of the nodes that are left: it ends at a node with a term, and goes on from one without
+module _ (rest : ℤ) (nodes : List ℕ) (values : List ℤ) (node : ℕ) {left above : ℕ} (same : length nodes ≡ length values) (some_left : 0 < left)
+    (so_far : restored_at rest (paired nodes values) node ≡ restored rest (paired nodes values) left above) where
+  pub way_ends : {place : ℕ} → FirstPlace nodes above place → restored_at rest (paired nodes values) node ≡ get_or values place (pos 0)
+  way_ends found = so_far ∙ one_step_up rest (paired nodes values) left above some_left ∙ found_term nodes values same _ found
+
+  pub way_goes_on : Nowhere nodes above → restored_at rest (paired nodes values) node ≡ restored rest (paired nodes values) (left - 1) (above / 2)
+  way_goes_on none = so_far ∙ one_step_up rest (paired nodes values) left above some_left ∙ found_none nodes values same _ none

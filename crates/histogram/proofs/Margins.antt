@@ -8,7 +8,7 @@ use lib.IntN.{ℤ}
 use Rattle.histogram.specs.declared.Term.{Term}
 use Rattle.histogram.specs.Errors.{slots_of, slot_error, slot_band, greatest, greatest_error, slot_margin, least, least_margin, Keeps}
 use Rattle.histogram.proofs.Expected.{greatest_bound, each_within}
-use Rattle.histogram.proofs.Order.{below_or_not}
+use Rattle.std.proofs.lemmas.Bool.{cases_lt}
 
 pub least_within : (f : ℕ → ℕ) (count k : ℕ) → k < count → least f count ≤ f k
 unfolding least
@@ -18,7 +18,7 @@ least_within f (suc (suc count)) k below =
     ⊎_elim
     (λ before. omega (arith, least_within f (suc count) k before))
     (λ from. let last : k ≡ suc count = omega arith in omega (arith, ap f last))
-    (below_or_not k (suc count))
+    (cases_lt k (suc count))
 
 pub least_bound : (f : ℕ → ℕ) (count bound : ℕ) → 1 ≤ count → ((k : ℕ) → k < count → bound ≤ f k) → bound ≤ least f count
 unfolding least

@@ -1,13 +1,15 @@
 -- Terms that are lent as two lists of equal length, seen from a place on: the term there, and what the test and the look-up do with it.
-use mathlib.Core.Path.{◌≡◌, refl, ap}
-use mathlib.Core.Bool.{not, cond, ◌&&◌}
+use mathlib.Core.Path.{◌≡◌, refl, ap, ◌∙◌}
+use mathlib.Core.Bool.{false, not, cond, ◌&&◌}
 use mathlib.Core.List.{List, [], ◌∷◌}
-use Prim.Native.Nat.{ℕ, suc, ◌<◌}
+use Prim.Native.Nat.{ℕ, suc, ◌+◌, ◌<◌}
+use native.Mathlib.Numerals.{add-one}
 use native.Mathlib.Omega.{arith}
 use lib.Dec.{ltb, eqb}
 use lib.IntN.{ℤ, pos}
 use lib.ListN.{length, get_or, drop}
 use lib.Seq.{drop-cons}
+use borrow.Author.Tests.{lt-ltb}
 use Rattle.limits.specs.Limits.{beyond}
 use Rattle.histogram.specs.declared.Term.{Term}
 use Rattle.histogram.specs.Terms.{paired, nodes_of, values_of, valid_from, term_or}
@@ -37,6 +39,12 @@ module _ (nodes : List ℕ) (values : List ℤ) (place : ℕ) (same : length nod
       ≡ (ltb last (get_or nodes place 0) && (ltb (get_or nodes place 0) end && (not (beyond 20000 (get_or values place (pos 0))) && valid_from (get_or nodes place 0) end (onwards nodes values (suc place)))))
   unfolding valid_from
   valid_there last end = ap (valid_from last end) term_there
+
+  -- where the term passes the test, those after it are left
+  pub valid_onwards : (last end : ℕ) → last < get_or nodes place 0 → get_or nodes place 0 < end → beyond 20000 (get_or values place (pos 0)) ≡ false
+      → valid_from last end (onwards nodes values place) ≡ valid_from (get_or nodes place 0) end (onwards nodes values (place + 1))
+  valid_onwards last end above below within =
+      valid_there last end ∙ rw (lt-ltb last (get_or nodes place 0) above, lt-ltb (get_or nodes place 0) end below, within, add-one place)
 
   pub lookup_there : (otherwise : ℤ) (node : ℕ)
       → term_or otherwise (onwards nodes values place) node

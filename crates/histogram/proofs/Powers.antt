@@ -1,16 +1,16 @@
 -- Laws beside the tree's definitions: `height n` is the least h with n ≤ 2 ^ h, and `level_of i` the one e with 2 ^ e ≤ i < 2 ^ (e + 1).
 -- Both go by induction on the number: one more is still within the power before it, or doubles it.
-use mathlib.Core.Path.{◌≡◌, refl}
+use mathlib.Core.Path.{◌≡◌, refl, ap, ◌∙◌}
 use mathlib.Core.Bool.{Bool, true, false, cond}
 use mathlib.Core.Logic.{◌⊎◌, inl, inr, ⊎_elim}
-use Prim.Native.Nat.{ℕ, zero, suc, ◌+◌, ◌/◌, ◌^◌, ◌≤◌, ◌<◌}
+use Prim.Native.Nat.{ℕ, zero, suc, ◌+◌, ◌-◌, ◌/◌, ◌^◌, ◌≤◌, ◌<◌, max}
 use native.Mathlib.Omega.{arith}
 use lib.Dec.{leb}
 use lib.Pow.{pow_pos, pow_mono}
 use lib.Count.{count_leading_zeros, leading_top}
 use borrow.Author.Tests.{leb-true, leb-false, le-ltb}
 use Rattle.histogram.specs.Tree.{height, padded, IsLevel, level_of, level_answer}
-use Rattle.histogram.proofs.Order.{below_or_not}
+use Rattle.std.proofs.lemmas.Bool.{cases_lt}
 
 pub height_reaches : (n : ℕ) → n ≤ 2 ^ height n
 unfolding height
@@ -33,7 +33,7 @@ height_least (suc n) k within = split (leb (suc n) (2 ^ height n)) refl (height_
 
     split : (test : Bool) → leb (suc n) (2 ^ height n) ≡ test → height n ≤ k → cond test (height n) (suc (height n)) ≤ k
     split true answer before = before
-    split false answer before = higher (leb-false (suc n) (2 ^ height n) answer) (below_or_not (height n) k)
+    split false answer before = higher (leb-false (suc n) (2 ^ height n) answer) (cases_lt (height n) k)
 
 -- the tree over a power of two slots has that height
 pub height_of_power : (power : ℕ) → height (2 ^ power) ≡ power
@@ -41,7 +41,7 @@ height_of_power power =
     ⊎_elim
     (λ lower. absurd (omega (arith, height_reaches (2 ^ power), pow_pos (height (2 ^ power)), pow_mono {i = suc (height (2 ^ power))} {j = power} lower)))
     (λ not_lower. omega (arith, height_least (2 ^ power) power (omega arith)))
-    (below_or_not (height (2 ^ power)) power)
+    (cases_lt (height (2 ^ power)) power)
 
 pub level_rule : (i : ℕ) → 1 ≤ i → IsLevel i (level_of i)
 unfolding level_of
@@ -62,8 +62,8 @@ pub level_only : {i e f : ℕ} → IsLevel i e → IsLevel i f → e ≡ f
 level_only {i} {e} {f} one other =
     ⊎_elim
     (λ less. absurd (not_lower one other less))
-    (λ not-less. ⊎_elim (λ more. absurd (not_lower other one more)) (λ not_more. omega arith) (below_or_not f e))
-    (below_or_not e f)
+    (λ not-less. ⊎_elim (λ more. absurd (not_lower other one more)) (λ not_more. omega arith) (cases_lt f e))
+    (cases_lt e f)
 
 -- a number in `width` bits: the zeros above its highest set bit, that bit, and below it as many bits as the level says
 pub zeros_above : (width : ℕ) {node : ℕ} → 1 ≤ node → node < 2 ^ width → count_leading_zeros width node + suc (level_of node) ≡ width
@@ -84,13 +84,9 @@ height_bound few = height_least _ 9 few
 pub padded_bound : {n : ℕ} → n ≤ 512 → padded n ≤ 512
 padded_bound few = pow_mono (height_bound few)
 
-pub level_bound : {node : ℕ} → 1 ≤ node → node ≤ 1023 → level_of node ≤ 9
-level_bound {node} from_one in_tree =
-    let level = level_rule node from_one in
-    ⊎_elim
-    (λ less. omega arith)
-    (λ more. absurd (omega (arith, level.reached, pow_mono {i = 10} more)))
-    (below_or_not (level_of node) 10)
-
 pub level_in_tree : {node : ℕ} → node ≤ 1023 → level_answer node ≡ level_of node
 level_in_tree {node} in_tree = rw (le-ltb 1023 node in_tree)
+
+-- in 16 bits, the zeros above a node's highest set bit and one more than its level make 16
+pub level_by_zeros : {node : ℕ} → 1 ≤ node → node ≤ 1023 → 15 - count_leading_zeros 16 node ≡ level_answer node
+level_by_zeros from_one in_tree = omega (arith, zeros_above 16 from_one (omega arith), level_in_tree in_tree)

@@ -1,5 +1,5 @@
 -- What inner functions ask and promise. A reader of the promises need not open this file.
-use Rattle.std.specs.Prelude.{◌≡◌, Bool, cond, ◌&&◌, List, ℕ, ◌+◌, ◌≤◌, ◌<◌, T, ltb, eqb, ℤ, pos, length, get_or}
+use Rattle.std.specs.Prelude.{◌≡◌, Bool, cond, ◌&&◌, List, ℕ, ◌≤◌, ◌<◌, T, ltb, eqb, ℤ, pos, length, get_or, Option, Some, None, MatchOption}
 use Rattle.histogram.specs.declared.Term.{Term}
 use Rattle.histogram.specs.Terms.{paired, valid_from}
 use Rattle.histogram.specs.Restored.{restored_at}
@@ -8,11 +8,19 @@ use Rattle.histogram.specs.Restored.{restored_at}
 pub record Ascending (nodes : List ℕ) : Type 0 where
   pub each : (p q : ℕ) → p < q → q < length nodes → get_or nodes p 0 < get_or nodes q 0
 
--- the first place of a node in a list of nodes, or the list's length where it is not there
-pub record Found (nodes : List ℕ) (node place : ℕ) : Type 0 where
-  pub within : place ≤ length nodes
+-- the first place of a node in a list of nodes
+pub record FirstPlace (nodes : List ℕ) (node place : ℕ) : Type 0 where
+  pub within : place < length nodes
+  pub there : get_or nodes place 0 ≡ node
   pub not_before : (k : ℕ) → k < place → get_or nodes k 0 ≡ node → ⊥
-  pub there : place < length nodes → get_or nodes place 0 ≡ node
+
+-- no place of a list of nodes holds the node
+pub record Nowhere (nodes : List ℕ) (node : ℕ) : Type 0 where
+  pub nowhere : (k : ℕ) → k < length nodes → get_or nodes k 0 ≡ node → ⊥
+
+-- the answer of a search: the first place of a node, or none where it is not there
+abbrev pub Found : List ℕ → ℕ → Option ℕ → Type 0
+Found nodes node place = MatchOption place (Nowhere nodes node) (FirstPlace nodes node)
 
 -- a node of the tree and terms that can be searched for the nodes above it
 pub record Searchable (nodes : List ℕ) (values : List ℤ) (node : ℕ) : Type 0 where
@@ -37,7 +45,6 @@ pub record HandedDown (rest : ℤ) (terms : List Term) (end : ℕ) (before after
 abbrev pub is_next : List ℕ → ℕ → ℕ → Bool
 is_next nodes next node = ltb next (length nodes) && eqb (get_or nodes next 0) node
 
--- the value of the next term where it is the node's, and else the value from above; the next term's place moves on with it
-pub record Fed (nodes : List ℕ) (values : List ℤ) (next node : ℕ) (above value : ℤ) (after : ℕ) : Type 0 where
-  pub value_is : value ≡ cond (is_next nodes next node) (get_or values next (pos 0)) above
-  pub next_is : after ≡ cond (is_next nodes next node) (next + 1) next
+-- the value of the next term where it is the node's
+abbrev pub fed : List ℕ → List ℤ → ℕ → ℕ → Option ℤ
+fed nodes values next node = cond (is_next nodes next node) (Some (get_or values next (pos 0))) None

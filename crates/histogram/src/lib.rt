@@ -7,7 +7,7 @@ pub mod restore;
 pub mod terms;
 
 // A term of a synopsis: a node number and a value in hundredths.
-#[derive(Clone, Copy)]
+#[derive(Clone, Copy, Debug, PartialEq, Eq)]
 pub struct Term {
     pub node: u16,
     pub value: i16,

@@ -1,17 +1,19 @@
 // Lists of terms: the padded length of a profile, whether a list is valid, and where a node stands in it.
+// Terms come as two slices of equal length, nodes and values: document 01 has slices of structs in thin functions around such code.
 ghost use Rattle.std.specs.Prelude.{◌≡◌, ◌≤◌, length};
 ghost use Rattle.histogram.specs.Tree.{padded};
 ghost use Rattle.histogram.specs.Terms.{paired, valid_from};
 ghost use Rattle.histogram.specs.Inner.{Found, Ascending};
 
 // The smallest power of two that is `slots` or more.
+// Doubled by hand: `next_power_of_two` makes the library for the panel's core need a helper that it may not (firmware/symbols).
 pub fn padded_length(slots: usize) -> usize
     requires { slots ≤ 512 }
     ensures { result ≡ padded slots }
 {
     let mut length = 1;
     while length < slots {
-        length = length * 2;
+        length *= 2;
     }
     length
 }
@@ -21,28 +23,22 @@ pub fn is_valid(end: usize, nodes: &[u16], values: &[i16]) -> bool
     requires { length nodes.now ≡ length values.now }
     ensures { result ≡ valid_from 0 end (paired nodes.now values.now) }
 {
-    let mut last: usize = 0;
-    let mut i = 0;
-    while i < nodes.len() {
-        let node = nodes[i] as usize;
-        if node <= last {
+    let mut last = 0;
+    for (i, &node) in nodes.iter().enumerate() {
+        let node = usize::from(node);
+        if node <= last || end <= node {
             return false;
         }
-        if end <= node {
-            return false;
-        }
-        let value = values[i];
-        if limits::is_beyond(limits::VALUE_LIMIT, value as i32) {
+        if limits::is_beyond(limits::VALUE_LIMIT, i32::from(values[i])) {
             return false;
         }
         last = node;
-        i += 1;
     }
     true
 }
 
-// The place of a node among ascending nodes, by halving; the number of nodes where it is not among them.
-pub fn find(nodes: &[u16], node: u16) -> usize
+// The place of a node among ascending nodes, by halving. By hand: firmware/audit refuses `binary_search` and `partition_point`, which take pointers to numbers.
+pub fn find(nodes: &[u16], node: u16) -> Option<usize>
     requires { Ascending nodes.now }
     ensures { Found nodes.now node result }
 {
@@ -56,10 +52,9 @@ pub fn find(nodes: &[u16], node: u16) -> usize
             high = middle;
         }
     }
-    if low < nodes.len() {
-        if nodes[low] == node {
-            return low;
-        }
+    if low < nodes.len() && nodes[low] == node {
+        Some(low)
+    } else {
+        None
     }
-    nodes.len()
 }

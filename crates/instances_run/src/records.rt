@@ -2,18 +2,31 @@
 ghost use Rattle.std.specs.Prelude.{◌≡◌, length};
 
 use printing::{
-    print, print_bytes, print_call, print_count_after, print_number_after, print_refusal,
+    print, print_bytes, print_call, print_count_after, print_number_after, print_outcome,
     print_special, print_term,
 };
-use record_check::{CheckAnswer, check_record};
-use record_read::{HeaderAnswer, read_record};
-use record_write::{WriteAnswer, write_record};
+use record_check::check_record;
+use record_read::{Header, read_record};
+use record_write::write_record;
+use refusals::Refusal;
+use std::array::from_fn;
 use std::io;
 use std::io::Write;
+use verdict::{Beyond, Verdict};
 
 // Document 01's record.
-const RECORD: [u8; 11] = [16, 24, 0, 200, 43, 192, 2, 1, 131, 219, 128];
+pub const RECORD: [u8; 11] = [16, 24, 0, 200, 43, 192, 2, 1, 131, 219, 128];
 
+// What is printed of a header with a refusal.
+const NO_HEADER: Header = Header {
+    slots: 0,
+    band: 0,
+    rest: 0,
+    count: 0,
+    specials: 0,
+};
+
+// Prints every record written, read and checked.
 pub fn run(out: &mut impl Write) -> io::Result<()> {
     writing(out)?;
     reading(out)?;
@@ -22,12 +35,14 @@ pub fn run(out: &mut impl Write) -> io::Result<()> {
     refused_checks(out)
 }
 
+// Records written, and what they are refused for.
 fn writing(out: &mut impl Write) -> io::Result<()> {
     written(out)?;
     refused_headers(out)?;
     refused_terms(out)
 }
 
+// Records read, and what they are refused for.
 fn reading(out: &mut impl Write) -> io::Result<()> {
     document(out)?;
     malformed(out)?;
@@ -36,43 +51,43 @@ fn reading(out: &mut impl Write) -> io::Result<()> {
     terms_without_places(out)
 }
 
+// Document 01's record, one of no term, and one of three.
 fn written(out: &mut impl Write) -> io::Result<()> {
-    let nodes = [1u16, 2, 3];
-    let values = [1975i16, 0, -20000];
-    write(out, 4, 25, 1400, &nodes[2..], &values[..1])?;
-    write(out, 4, 25, 1400, &nodes[..0], &values[..0])?;
-    write(out, 4, 25, 1400, &nodes, &values)
+    write(out, 4, 25, 1400, &[3], &[1975])?;
+    write(out, 4, 25, 1400, &[], &[])?;
+    write(out, 4, 25, 1400, &[1, 2, 3], &[1975, 0, -20000])
 }
 
 // In each refusal every later check would fail too, so the order shows.
 fn refused_headers(out: &mut impl Write) -> io::Result<()> {
-    let nodes = [8u16, 8];
-    let values = [1i16, 1];
-    refuse(out, 0, -1, 20001, &nodes, &values)?;
-    refuse(out, 513, -1, 20001, &nodes, &values)?;
-    refuse(out, 4, -1, 20001, &nodes, &values)?;
-    refuse(out, 4, -1, 0, &nodes, &values)?;
-    refuse(out, 4, 40001, 0, &nodes, &values)
+    for (slots, band, rest) in [
+        (0, -1, 20001),
+        (513, -1, 20001),
+        (4, -1, 20001),
+        (4, -1, 0),
+        (4, 40001, 0),
+    ] {
+        refuse(out, slots, band, rest, &[8, 8], &[1, 1])?;
+    }
+    Ok(())
 }
 
 // A node twice, and one past the last of 4 slots but not of 8.
 fn refused_terms(out: &mut impl Write) -> io::Result<()> {
-    let nodes = [8u16, 8];
-    let values = [1i16, 1];
-    refuse(out, 4, 40000, 0, &nodes, &values)?;
-    refuse(out, 4, 40000, 0, &nodes[..1], &values[..1])?;
-    refuse(out, 8, 40000, 0, &nodes, &values)?;
-    write(out, 8, 40000, 0, &nodes[..1], &values[..1])
+    refuse(out, 4, 40000, 0, &[8, 8], &[1, 1])?;
+    refuse(out, 4, 40000, 0, &[8], &[1])?;
+    refuse(out, 8, 40000, 0, &[8, 8], &[1, 1])?;
+    write(out, 8, 40000, 0, &[8], &[1])
 }
 
 // Document 01's record: every byte, one byte fewer, and the first six.
 fn document(out: &mut impl Write) -> io::Result<()> {
-    let bytes = RECORD;
-    read(out, b"document 01's record", &bytes)?;
-    read(out, b"it without its last byte", &bytes[..10])?;
-    read(out, b"its first six bytes", &bytes[..6])
+    read(out, b"document 01's record", &RECORD)?;
+    read(out, b"it without its last byte", &RECORD[..10])?;
+    read(out, b"its first six bytes", &RECORD[..6])
 }
 
+// Bytes that are no record: another version, and fill that is not zero.
 fn malformed(out: &mut impl Write) -> io::Result<()> {
     let version = [0u8, 24, 0, 200, 43, 192, 2, 1, 131, 219, 128];
     read(out, b"version 0", &version)?;
@@ -80,6 +95,7 @@ fn malformed(out: &mut impl Write) -> io::Result<()> {
     read(out, b"fill not zero", &fill)
 }
 
+// Records whose header goes beyond a limit.
 fn wrong_headers(out: &mut impl Write) -> io::Result<()> {
     let rest = [16u8, 24, 0, 202, 113, 8, 0];
     read(out, b"a rest value beyond the limit", &rest)?;
@@ -87,6 +103,7 @@ fn wrong_headers(out: &mut impl Write) -> io::Result<()> {
     read(out, b"a band beyond the limit", &band)
 }
 
+// Records of terms that no synopsis has.
 fn wrong_terms(out: &mut impl Write) -> io::Result<()> {
     let twice = [16u8, 24, 0, 200, 0, 0, 4, 1, 128, 0, 128, 96, 0, 64];
     read(out, b"a node twice", &twice)?;
@@ -98,38 +115,25 @@ fn wrong_terms(out: &mut impl Write) -> io::Result<()> {
     read(out, b"a value beyond the limit", &beyond)
 }
 
+// A record of more terms than the destinations have places for.
 fn terms_without_places(out: &mut impl Write) -> io::Result<()> {
     let two = [16u8, 24, 0, 200, 0, 0, 4, 0, 128, 2, 128, 64, 0, 192];
     read(out, b"two terms into one place", &two)
 }
 
-// Records of 0, 1 and 1,023 terms, each into as many bytes as it has, and read back.
+// Records of 0 and 1 terms, each into as many bytes as it has, and read back.
 fn lengths(out: &mut impl Write) -> io::Result<()> {
-    let nodes = [1u16];
-    let values = [7i16];
-    let mut seven = [255u8; 7];
-    there_and_back(out, &nodes[..0], &values[..0], &mut seven)?;
-    let mut eleven = [255u8; 11];
-    there_and_back(out, &nodes, &values, &mut eleven)
+    there_and_back(out, &[], &[], &mut [255; 7])?;
+    there_and_back(out, &[1], &[7], &mut [255; 11])
 }
 
+// And of 1,023 terms, one at every node of 512 slots.
 fn greatest_length(out: &mut impl Write) -> io::Result<()> {
-    let mut nodes = [0u16; 1023];
-    let values = [7i16; 1023];
-    number(1, &mut nodes);
-    let mut bytes = [255u8; 3332];
-    there_and_back(out, &nodes, &values, &mut bytes)
+    let nodes: [u16; 1023] = from_fn(|i| i as u16 + 1);
+    there_and_back(out, &nodes, &[7; 1023], &mut [255; 3332])
 }
 
-// Numbers places from `first` on.
-pub fn number(first: u16, places: &mut [u16]) {
-    let mut i = 0;
-    while i < places.len() {
-        places[i] = ((first as usize + i % 65536) % 65536) as u16;
-        i += 1;
-    }
-}
-
+// Writes a record of 512 slots and reads it back; then prints how many terms it has, both answers and the last places that were read to.
 fn there_and_back(
     out: &mut impl Write,
     nodes: &[u16],
@@ -138,9 +142,7 @@ fn there_and_back(
 ) -> io::Result<()>
     requires { length nodes.now ≡ length values.now }
 {
-    let slots = [0u16; 1];
-    let own = [0u16; 1];
-    there_and_back_with(out, nodes, values, &slots[..0], &own[..0], bytes)
+    there_and_back_with(out, nodes, values, &[], &[], bytes)
 }
 
 // The same, with special slots.
@@ -161,12 +163,14 @@ pub fn there_and_back_with(
     back(out, bytes)
 }
 
+// Prints how many terms and special slots a record has.
 fn print_counts(out: &mut impl Write, terms: usize, specials: usize) -> io::Result<()> {
     print_count_after(out, b"a record of ", terms)?;
     print_count_after(out, b" terms and ", specials)?;
     print(out, b" special slots")
 }
 
+// Reads a record into as many places as any has, and prints the answer and what the last places hold.
 fn back(out: &mut impl Write, bytes: &[u8]) -> io::Result<()> {
     let mut nodes = [0u16; 1023];
     let mut values = [0i16; 1023];
@@ -179,8 +183,10 @@ fn back(out: &mut impl Write, bytes: &[u8]) -> io::Result<()> {
     print(out, b"\n")
 }
 
-fn print_back(out: &mut impl Write, header: HeaderAnswer) -> io::Result<()> {
-    print_refusal(out, header.refusal)?;
+// Prints the refusal's number and both counts.
+fn print_back(out: &mut impl Write, answer: Result<Header, Refusal>) -> io::Result<()> {
+    print_outcome(out, &answer)?;
+    let header = answer.unwrap_or(NO_HEADER);
     print_count_after(out, b" ", header.count)?;
     print_count_after(out, b" ", header.specials)?;
     print(out, b", the last places")
@@ -188,13 +194,10 @@ fn print_back(out: &mut impl Write, header: HeaderAnswer) -> io::Result<()> {
 
 // In each refusal every later check would fail too, so the order shows.
 fn refused_checks(out: &mut impl Write) -> io::Result<()> {
-    let bytes = RECORD;
-    let three = [1410i16, 1390, 2000];
-    check(out, b"no setpoint", &three[..0], &bytes[..10])?;
-    let far = [20001i16];
-    check(out, b"a short record", &far, &bytes[..10])?;
-    check(out, b"a setpoint beyond the limit", &far, &bytes)?;
-    check(out, b"another length", &three, &bytes)
+    check(out, b"no setpoint", &[], &RECORD[..10])?;
+    check(out, b"a short record", &[20001], &RECORD[..10])?;
+    check(out, b"a setpoint beyond the limit", &[20001], &RECORD)?;
+    check(out, b"another length", &[1410, 1390, 2000], &RECORD)
 }
 
 // Special slots that are wrong for every number of slots, and too many bytes for the destination.
@@ -208,11 +211,12 @@ fn refuse(
 ) -> io::Result<()>
     requires { length nodes.now ≡ length values.now }
 {
-    let wrong = [600u16, 600];
-    let own = [40001u16, 40001];
+    let wrong = [600, 600];
+    let own = [40001, 40001];
     write_with(out, slots, band, rest, nodes, values, &wrong, &own)
 }
 
+// Writes with no special slots.
 fn write(
     out: &mut impl Write,
     slots: usize,
@@ -223,9 +227,7 @@ fn write(
 ) -> io::Result<()>
     requires { length nodes.now ≡ length values.now }
 {
-    let none = [0u16; 1];
-    let own = [0u16; 1];
-    write_with(out, slots, band, rest, nodes, values, &none[..0], &own[..0])
+    write_with(out, slots, band, rest, nodes, values, &[], &[])
 }
 
 // The header, then the refusal's number, the count of bytes and the destination, which held 255 in every place.
@@ -250,6 +252,7 @@ pub fn write_with(
     print(out, b"\n")
 }
 
+// Prints the number of slots, the band and the rest value, after what stands before them.
 fn print_header(
     out: &mut impl Write,
     before: &[u8],
@@ -262,9 +265,10 @@ fn print_header(
     print_number_after(out, b" ", rest)
 }
 
-fn print_written(out: &mut impl Write, answer: WriteAnswer) -> io::Result<()> {
-    print_refusal(out, answer.refusal)?;
-    print_count_after(out, b" ", answer.count)
+// Prints the refusal's number and the count of bytes.
+fn print_written(out: &mut impl Write, answer: Result<usize, Refusal>) -> io::Result<()> {
+    print_outcome(out, &answer)?;
+    print_count_after(out, b" ", answer.unwrap_or(0))
 }
 
 // What it is, then the refusal's number, slots, band, rest value, both counts, and the destinations' one place for a term and for a special slot.
@@ -281,31 +285,33 @@ pub fn read(out: &mut impl Write, what: &[u8], bytes: &[u8]) -> io::Result<()> {
     print(out, b"\n")
 }
 
-fn print_read(out: &mut impl Write, header: HeaderAnswer) -> io::Result<()> {
-    print_refusal(out, header.refusal)?;
+// Prints the refusal's number and the header.
+fn print_read(out: &mut impl Write, answer: Result<Header, Refusal>) -> io::Result<()> {
+    print_outcome(out, &answer)?;
+    let header = answer.unwrap_or(NO_HEADER);
     print_header(out, b" ", header.slots, header.band, header.rest)?;
     print_count_after(out, b" ", header.count)?;
     print_count_after(out, b" ", header.specials)
 }
 
+// What it is, then the refusal's number and the verdict.
 pub fn check(out: &mut impl Write, what: &[u8], setpoints: &[i16], bytes: &[u8]) -> io::Result<()> {
     let answer = check_record(setpoints, bytes);
     print_call(out, b"check ", what)?;
-    print_checked(out, answer)
+    print_outcome(out, &answer)?;
+    print_verdict(out, answer.unwrap_or(Err(Beyond { slot: 0 })))
 }
 
-fn print_checked(out: &mut impl Write, answer: CheckAnswer) -> io::Result<()> {
-    print_refusal(out, answer.refusal)?;
-    verdict(out, answer.kept)?;
-    print_number_after(out, b" ", answer.error as i32)?;
-    print_number_after(out, b" ", answer.slot as i32)?;
-    print(out, b"\n")
-}
-
-fn verdict(out: &mut impl Write, kept: bool) -> io::Result<()> {
-    if kept {
-        print(out, b" kept")
-    } else {
-        print(out, b" not kept")
+// Whether it is kept, the greatest error and the lowest slot beyond its band.
+fn print_verdict(out: &mut impl Write, verdict: Verdict) -> io::Result<()> {
+    match verdict {
+        Ok(kept) => {
+            print_count_after(out, b" kept ", usize::from(kept.error))?;
+            print(out, b" 0\n")
+        }
+        Err(beyond) => {
+            print_count_after(out, b" not kept 0 ", usize::from(beyond.slot))?;
+            print(out, b"\n")
+        }
     }
 }

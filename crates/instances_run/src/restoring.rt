@@ -2,10 +2,11 @@
 ghost use Rattle.std.specs.Prelude.{◌≡◌, length};
 
 use histogram::restore::{restore_profile, restore_slot};
-use printing::{print, print_count_after, print_refusal, print_setpoint, print_setpoints};
+use printing::{print, print_count_after, print_outcome, print_setpoint, print_setpoints};
 use std::io;
 use std::io::Write;
 
+// Prints every slot and profile restored.
 pub fn run(out: &mut impl Write) -> io::Result<()> {
     document(out)?;
     refused(out)?;
@@ -15,33 +16,25 @@ pub fn run(out: &mut impl Write) -> io::Result<()> {
 
 // Document 01's firing: a rest value of 14,00 and one term at node 3.
 fn document(out: &mut impl Write) -> io::Result<()> {
-    let nodes = [3u16];
-    let values = [1975i16];
-    slot(out, 4, 1400, &nodes, &values, 0)?;
-    slot(out, 4, 1400, &nodes, &values, 1)?;
-    slot(out, 4, 1400, &nodes, &values, 2)?;
-    slot(out, 4, 1400, &nodes, &values, 3)?;
-    profile(out, 4, 1400, &nodes, &values)
+    for asked in 0..4 {
+        slot(out, 4, 1400, &[3], &[1975], asked)?;
+    }
+    profile(out, 4, 1400, &[3], &[1975])
 }
 
 // In each refusal every later check would fail too, so the order shows.
 fn refused(out: &mut impl Write) -> io::Result<()> {
-    let nodes = [3u16, 3];
-    let values = [1i16, 2];
-    slot(out, 0, 20001, &nodes, &values, 9)?;
-    slot(out, 513, 0, &nodes, &values, 9)?;
-    slot(out, 4, -20001, &nodes, &values, 9)?;
-    slot(out, 4, 0, &nodes, &values, 9)?;
-    slot(out, 1, 0, &nodes, &values, 9)
+    for (slots, rest) in [(0, 20001), (513, 0), (4, -20001), (4, 0), (1, 0)] {
+        slot(out, slots, rest, &[3, 3], &[1, 2], 9)?;
+    }
+    Ok(())
 }
 
+// A slot past the last, a destination too short and a value beyond the limit.
 fn refused_terms(out: &mut impl Write) -> io::Result<()> {
-    let nodes = [3u16];
-    let values = [1i16];
-    slot(out, 4, 0, &nodes, &values, 4)?;
-    profile(out, 512, 0, &nodes, &values)?;
-    let far = [20001i16];
-    slot(out, 4, 0, &nodes, &far, 0)
+    slot(out, 4, 0, &[3], &[1], 4)?;
+    profile(out, 512, 0, &[3], &[1])?;
+    slot(out, 4, 0, &[3], &[20001], 0)
 }
 
 // A term of value 0 below another one, and a slot's own term.
@@ -52,6 +45,7 @@ fn nested(out: &mut impl Write) -> io::Result<()> {
     profile(out, 4, 9, &nodes, &values)
 }
 
+// Asks for one slot, and prints its answer.
 fn slot(
     out: &mut impl Write,
     slots: usize,
@@ -65,8 +59,8 @@ fn slot(
     let answer = restore_slot(slots, rest, nodes, values, asked);
     print_count_after(out, b"slot ", asked)?;
     print_count_after(out, b" of ", slots)?;
-    print_refusal(out, answer.refusal)?;
-    print_setpoint(out, answer.setpoint)?;
+    print_outcome(out, &answer)?;
+    print_setpoint(out, answer.unwrap_or(0))?;
     print(out, b"\n")
 }
 
@@ -81,9 +75,9 @@ fn profile(
     requires { length nodes.now ≡ length values.now }
 {
     let mut setpoints = [7i16; 4];
-    let refusal = restore_profile(slots, rest, nodes, values, &mut setpoints);
+    let answer = restore_profile(slots, rest, nodes, values, &mut setpoints);
     print_count_after(out, b"all of ", slots)?;
-    print_refusal(out, refusal)?;
+    print_outcome(out, &answer)?;
     print_setpoints(out, &setpoints)?;
     print(out, b"\n")
 }

@@ -1,7 +1,8 @@
 // Document 02's F-6: texts with own bands, records of version 2, their check, and offers for a text with a special slot.
-use crate::records::{check, number, read, there_and_back_with, write_with};
-use crate::texts::show;
+use crate::records::{RECORD, check, read, there_and_back_with, write_with};
+use crate::texts::{FIRING, show};
 use crate::winners::choose_for;
+use std::array::from_fn;
 use std::io;
 use std::io::Write;
 
@@ -10,6 +11,7 @@ const SPECIAL: [u8; 16] = [
     32, 24, 0, 200, 43, 192, 2, 1, 131, 219, 128, 32, 16, 0, 160, 126,
 ];
 
+// Prints every text, record, check and choice.
 pub fn run(out: &mut impl Write) -> io::Result<()> {
     lines(out)?;
     wrong_lines(out)?;
@@ -50,32 +52,24 @@ fn wrong_lines(out: &mut impl Write) -> io::Result<()> {
 
 // In each refusal every later check would fail too, so the order shows.
 fn writing(out: &mut impl Write) -> io::Result<()> {
-    let nodes = [3u16, 8];
-    let values = [1975i16, 0];
-    let slots = [1u16, 4];
-    let own = [10u16, 10];
-    write_with(
-        out,
-        4,
-        25,
-        1400,
-        &nodes[..1],
-        &values[..1],
-        &slots[..1],
-        &own[..1],
-    )?;
-    write_with(out, 4, 25, 1400, &nodes[..1], &values[..1], &slots, &own)?;
+    let nodes = [3, 8];
+    let values = [1975, 0];
+    let slots = [1, 4];
+    let own = [10, 10];
+    write_with(out, 4, 25, 1400, &[3], &[1975], &[1], &[10])?;
+    write_with(out, 4, 25, 1400, &[3], &[1975], &slots, &own)?;
     write_with(out, 4, 25, 1400, &nodes, &values, &slots, &own)?;
     write_with(out, 5, 25, 1400, &nodes, &values, &slots, &own)
 }
 
+// The record above: its bytes, one behind them, and its special slot cut off.
 fn document(out: &mut impl Write) -> io::Result<()> {
-    let bytes = SPECIAL;
-    read(out, b"a record of version 2", &bytes[..15])?;
-    read(out, b"it with a byte behind it", &bytes)?;
-    read(out, b"it without its special slot", &bytes[..12])
+    read(out, b"a record of version 2", &SPECIAL[..15])?;
+    read(out, b"it with a byte behind it", &SPECIAL)?;
+    read(out, b"it without its special slot", &SPECIAL[..12])
 }
 
+// Bytes that are no record: another version, and a second count of 0, or none.
 fn malformed(out: &mut impl Write) -> io::Result<()> {
     let three = [
         48u8, 24, 0, 200, 43, 192, 2, 1, 131, 219, 128, 32, 16, 0, 160,
@@ -86,6 +80,7 @@ fn malformed(out: &mut impl Write) -> io::Result<()> {
     read(out, b"it without its second count", &none[..11])
 }
 
+// Special slots: the last, one past it, one twice, and two for the one place.
 fn wrong_slots(out: &mut impl Write) -> io::Result<()> {
     let last = [32u8, 24, 0, 200, 43, 192, 0, 0, 128, 192, 2, 128];
     read(out, b"the last slot as a special one", &last)?;
@@ -97,6 +92,7 @@ fn wrong_slots(out: &mut impl Write) -> io::Result<()> {
     read(out, b"two special slots into one place", &two)
 }
 
+// Own bands that no special slot may have.
 fn wrong_bands(out: &mut impl Write) -> io::Result<()> {
     let common = [32u8, 24, 0, 200, 43, 192, 0, 0, 128, 64, 6, 64];
     read(out, b"the common band as an own one", &common)?;
@@ -106,48 +102,41 @@ fn wrong_bands(out: &mut impl Write) -> io::Result<()> {
 
 // The largest record that reads.
 fn greatest_length(out: &mut impl Write) -> io::Result<()> {
-    let mut nodes = [0u16; 1023];
-    let values = [7i16; 1023];
-    number(1, &mut nodes);
-    let mut slots = [0u16; 512];
-    let own = [5u16; 512];
-    number(0, &mut slots);
-    let mut bytes = [255u8; 4933];
-    there_and_back_with(out, &nodes, &values, &slots, &own, &mut bytes)
+    let nodes: [u16; 1023] = from_fn(|i| i as u16 + 1);
+    let slots: [u16; 512] = from_fn(|i| i as u16);
+    let mut bytes = [255; 4933];
+    there_and_back_with(out, &nodes, &[7; 1023], &slots, &[5; 512], &mut bytes)
 }
 
 // The check goes by the record's bands.
 fn checks(out: &mut impl Write) -> io::Result<()> {
-    let bytes = SPECIAL;
-    let kept = [1410i16, 1390, 2000, 1950];
-    check(out, b"slot 1 within its own band", &kept, &bytes[..15])?;
-    let beyond = [1410i16, 1389, 2000, 1950];
-    check(out, b"slot 1 beyond its own band", &beyond, &bytes[..15])
+    let kept = [1410, 1390, 2000, 1950];
+    check(out, b"slot 1 within its own band", &kept, &SPECIAL[..15])?;
+    let beyond = [1410, 1389, 2000, 1950];
+    check(out, b"slot 1 beyond its own band", &beyond, &SPECIAL[..15])
 }
 
 // A candidate has the text's special slots.
 fn choices(out: &mut impl Write) -> io::Result<()> {
-    let special = SPECIAL;
-    let plain = [16u8, 24, 0, 200, 43, 192, 2, 1, 131, 219, 128];
     choose_for(
         out,
         b"version 1 and version 2, for a text with that special slot",
         b"14,00\n0,25\n14,10\n13,90 0,10\n20,00\n19,50\n",
-        &plain,
-        &special,
+        &RECORD,
+        &SPECIAL,
     )?;
     choose_for(
         out,
         b"version 2 and version 1, for a text without",
-        b"14,00\n0,25\n14,10\n13,90\n20,00\n19,50\n",
-        &special,
-        &plain,
+        FIRING,
+        &SPECIAL,
+        &RECORD,
     )?;
     choose_for(
         out,
         b"version 2 and version 1, for a text with another own band",
         b"14,00\n0,25\n14,10\n13,90 0,11\n20,00\n19,50\n",
-        &special,
-        &plain,
+        &SPECIAL,
+        &RECORD,
     )
 }

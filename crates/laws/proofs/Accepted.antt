@@ -18,7 +18,7 @@ use Rattle.histogram.specs.declared.Term.{Term}
 use Rattle.histogram.specs.Tree.{padded}
 use Rattle.histogram.proofs.Powers.{padded_bound}
 use Rattle.claims.specs.Best.{InRange}
-use Rattle.build.specs.declared.BuildAnswer.{BuildAnswer}
+use Rattle.build.specs.declared.BuiltSynopsis.{BuiltSynopsis}
 use Rattle.build.specs.Building.{values_refusal, build_refusal}
 use Rattle.build.proofs.Accepted.{values_accepted}
 use Rattle.laws.specs.Profiles.{EqualPowerLengths, moved, turned}
@@ -27,7 +27,7 @@ use Rattle.laws.proofs.Joined.{each_of_both, joined_length, joined_in_range}
 use Rattle.laws.proofs.Moved.{turned_in_range}
 use Rattle.laws.proofs.Calls.{none_refused, answered_accepted, each_band, each_within}
 
-module _ {first second : List ℤ} {rest : ℤ} {bands bands' : List ℕ} {one two : BuildAnswer} {terms terms' : List Term}
+module _ {first second : List ℤ} {rest : ℤ} {bands bands' : List ℕ} {one two : BuiltSynopsis} {terms terms' : List Term}
     (answered : Answered first rest bands one terms) (answered' : Answered second rest bands' two terms') (common : ℕ) where
   -- the special slots of the joined profile
   abbrev specials : List SpecialSlot
@@ -57,7 +57,7 @@ module _ {first second : List ℤ} {rest : ℤ} {bands bands' : List ℕ} {one t
         le-ltb numbers 12288 scratch_long,
       )
 
-module _ {profile : List ℤ} {rest : ℤ} {bands : List ℕ} {answer : BuildAnswer} {terms : List Term} (answered : Answered profile rest bands answer terms) where
+module _ {profile : List ℤ} {rest : ℤ} {bands : List ℕ} {answer : BuiltSynopsis} {terms : List Term} (answered : Answered profile rest bands answer terms) where
   -- another profile of as many slots, in range, is accepted with the same bands and memory
   like_accepted : (profile' : List ℤ) (rest' : ℤ) → length profile' ≡ length profile → InRange profile' rest'
       → build_refusal profile' rest' answered.band answered.specials answered.places answered.numbers ≡ 0

@@ -8,19 +8,19 @@ use Rattle.bands.proofs.Bands.{length_slot_bands, bands_within}
 use Rattle.histogram.specs.declared.Term.{Term}
 use Rattle.histogram.specs.Errors.{least_margin}
 use Rattle.claims.specs.Best.{Best}
-use Rattle.build.specs.declared.BuildAnswer.{BuildAnswer}
+use Rattle.build.specs.declared.BuiltSynopsis.{BuiltSynopsis}
 use Rattle.build.specs.Building.{build_refusal}
 use Rattle.build.proofs.Accepted.{ProfileAccepted, band_within, specials_accepted}
 use Rattle.build.proofs.Answers.{built_accepted, built_first}
 use Rattle.laws.specs.Numbers.{BestNumbers}
 use Rattle.laws.specs.Calls.{Answered}
 
-module _ {profile : List ℤ} {rest : ℤ} {bands : List ℕ} {answer : BuildAnswer} {terms : List Term} (answered : Answered profile rest bands answer terms) where
+module _ {profile : List ℤ} {rest : ℤ} {bands : List ℕ} {answer : BuiltSynopsis} {terms : List Term} (answered : Answered profile rest bands answer terms) where
   pub none_refused : build_refusal profile rest answered.band answered.specials answered.places answered.numbers ≡ 0
-  none_refused = sym answered.built.refusal_is ∙ answered.not_refused
+  none_refused = sym answered.built.refusal_is
 
   pub answered_accepted : ProfileAccepted profile rest
-  answered_accepted = built_accepted answered.built answered.not_refused
+  answered_accepted = built_accepted answered.built refl
 
   -- each slot has a band, within 0 to 40,000
   pub each_band : length bands ≡ length profile
@@ -34,7 +34,7 @@ module _ {profile : List ℤ} {rest : ℤ} {bands : List ℕ} {answer : BuildAns
 
   -- what is handed over is a best synopsis, so its count and its least margin are the numbers of one
   answered_best : Best profile rest bands terms
-  answered_best = rw answered.bands_are at (built_first answered.built answered.not_refused).best
+  answered_best = rw answered.bands_are at (built_first answered.built refl).best
 
   pub answered_numbers : BestNumbers profile rest bands answer.count (least_margin profile rest terms bands)
   answered_numbers = record { terms = terms; best = answered_best; count_is = sym answered.built.count_is; margin_is = refl }

@@ -9,21 +9,19 @@ use std::io::Write;
 fn main(rt: HostRuntime) -> io::Result<()> {
     let mut out = rt.stdout();
     let mut first = 0;
-    let mut last = 0;
-    while last < u16::MAX {
+    for last in 0..u16::MAX {
         let next = last + 1;
         if level(next) != level(last) {
             print_run(&mut out, first, last)?;
             first = next;
         }
-        last = next;
     }
-    print_run(&mut out, first, last)
+    print_run(&mut out, first, u16::MAX)
 }
 
 fn print_run(out: &mut impl Write, first: u16, last: u16) -> io::Result<()> {
-    print_count(out, first as usize)?;
-    print_count_after(out, b" to ", last as usize)?;
-    print_count_after(out, b": ", level(last) as usize)?;
+    print_count(out, usize::from(first))?;
+    print_count_after(out, b" to ", usize::from(last))?;
+    print_count_after(out, b": ", usize::from(level(last)))?;
     print(out, b"\n")
 }

@@ -21,8 +21,7 @@ use Rattle.record.specs.Layout.{layout_width}
 use Rattle.record.proofs.Sound.{sound}
 use Rattle.histogram.proofs.Kept.{kept_keeps, keeps_kept}
 use Rattle.offers.specs.declared.Candidate.{Candidate}
-use Rattle.offers.specs.declared.Offer.{Offer}
-use Rattle.offers.specs.declared.Offer.TheVariants.{Nothing, One}
+use Rattle.std.specs.Prelude.{Option, None, Some}
 use Rattle.offers.specs.declared.Winner.{Winner}
 use Rattle.offers.specs.declared.Winner.TheVariants.{Neither, First, Second}
 use Rattle.offers.specs.Offers.{record_end, has_record, record_of, is_for, is_candidate, offer_of, beats, winner}
@@ -75,7 +74,7 @@ module _ (text buffer : List ℕ) where
       )
 
   -- what the buffer offers
-  abbrev offer : Offer
+  abbrev offer : Option Candidate
   offer = offer_of (setpoints_of text) (rest_of text) (band_of text) (bands_of text) buffer
 
   -- what it offers where it has a candidate
@@ -83,8 +82,8 @@ module _ (text buffer : List ℕ) where
   offered = record { size = record_end buffer; terms = count_in bytes; margin = margin_of text buffer }
 
   data Offered : Type 0 where
-    none : offer ≡ Nothing → (HasCandidate text buffer → ⊥) → Offered
-    some : offer ≡ One offered → HasCandidate text buffer → Offered
+    none : offer ≡ None → (HasCandidate text buffer → ⊥) → Offered
+    some : offer ≡ Some offered → HasCandidate text buffer → Offered
 
   offers : text_refusal text ≡ 0 → Offered
   offers right = by_tests (has_record buffer) (is_candidate (setpoints_of text) (rest_of text) (band_of text) (bands_of text) bytes) refl refl

@@ -2,7 +2,7 @@
 use Rattle.std.specs.Prelude.{◌≡◌, Bool, false, ◌&&◌, List, ℕ, ◌≤◌, ◌<◌, eqb, ℤ, nat_abs, length}
 use Rattle.limits.specs.Limits.{outside_slots, any_beyond}
 use Rattle.bands.specs.Bands.{specials_among}
-use Rattle.record_read.specs.declared.HeaderAnswer.{HeaderAnswer}
+use Rattle.record_read.specs.declared.Header.{Header}
 use Rattle.offers.specs.Offers.{record_end, same_number}
 
 -- setpoints that are not refused, a band for each, the common band, and how many of them are not the common one
@@ -25,5 +25,5 @@ pub record EndRead (buffer : List ℕ) (end : ℕ) : Type 0 where
   pub outside : length buffer < end → length buffer < record_end buffer
 
 -- whether a header has a length, a rest value and a band
-abbrev pub header_is_for : HeaderAnswer → ℕ → ℤ → ℤ → Bool
+abbrev pub header_is_for : Header → ℕ → ℤ → ℤ → Bool
 header_is_for header slots rest band = eqb header.slots slots && same_number header.band band && same_number header.rest rest

@@ -1,6 +1,6 @@
 -- The better of two offers: document 02, F-1, with its F-6. For the auditor.
 -- `proofs/Plainly.antt` shows that the part handed back is what F-1 says in words, `HandedBack` of specs/Plainly.antt: `handed_back`.
-use Rattle.std.specs.Prelude.{Bool, false, cond, ◌&&◌, ◌||◌, List, ℕ, leb, ltb, eqb, ℤ, pos, negsuc, length, take}
+use Rattle.std.specs.Prelude.{Bool, false, cond, ◌&&◌, ◌||◌, List, ℕ, leb, ltb, eqb, ℤ, pos, negsuc, length, take, Option, None, Some}
 use Rattle.std.specs.Borrow.{Bor}
 use Rattle.limits.specs.Answers.{granted}
 use Rattle.bands.specs.Bands.{same_bands}
@@ -9,8 +9,6 @@ use Rattle.histogram.specs.Errors.{least_margin, kept}
 use Rattle.record.specs.Record.{slots_in, band_in, rest_in, count_in, terms_in, bands_in, bytes_in}
 use Rattle.record.specs.Answers.{record_refusal}
 use Rattle.offers.specs.declared.Candidate.{Candidate}
-use Rattle.offers.specs.declared.Offer.{Offer}
-use Rattle.offers.specs.declared.Offer.TheVariants.{Nothing, One}
 use Rattle.offers.specs.declared.Winner.{Winner}
 use Rattle.offers.specs.declared.Winner.TheVariants.{Neither, First, Second}
 
@@ -44,26 +42,26 @@ is_candidate profile rest band bands bytes =
     eqb (record_refusal bytes) 0 && is_for profile rest band bands bytes && kept profile (rest_in bytes) (terms_in bytes) (bands_in bytes)
 
 -- what a record offers for a profile where it is a candidate: how many bytes and terms it has, and its least margin
-abbrev pub candidate_offer : List ℤ → ℤ → ℤ → List ℕ → List ℕ → Offer
+abbrev pub candidate_offer : List ℤ → ℤ → ℤ → List ℕ → List ℕ → Option Candidate
 candidate_offer profile rest band bands bytes =
     cond (is_candidate profile rest band bands bytes)
-    (One (record { size = length bytes; terms = count_in bytes; margin = least_margin profile (rest_in bytes) (terms_in bytes) (bands_in bytes) }))
-    Nothing
+    (Some (record { size = length bytes; terms = count_in bytes; margin = least_margin profile (rest_in bytes) (terms_in bytes) (bands_in bytes) }))
+    None
 
 -- what a buffer offers: what the record at its front does
-abbrev pub offer_of : List ℤ → ℤ → ℤ → List ℕ → List ℕ → Offer
-offer_of profile rest band bands buffer = cond (has_record buffer) (candidate_offer profile rest band bands (record_of buffer)) Nothing
+abbrev pub offer_of : List ℤ → ℤ → ℤ → List ℕ → List ℕ → Option Candidate
+offer_of profile rest band bands buffer = cond (has_record buffer) (candidate_offer profile rest band bands (record_of buffer)) None
 
 -- "Fewer terms wins, then" the greater least margin, which "takes the place of the smaller error"
 abbrev pub beats : Candidate → Candidate → Bool
 beats candidate other = ltb candidate.terms other.terms || (eqb candidate.terms other.terms && ltb other.margin candidate.margin)
 
 -- "then the first buffer"
-abbrev pub better : Offer → Offer → Winner
-better Nothing Nothing = Neither
-better Nothing (One second) = Second second.size
-better (One first) Nothing = First first.size
-better (One first) (One second) = cond (beats second first) (Second second.size) (First first.size)
+abbrev pub better : Option Candidate → Option Candidate → Winner
+better None None = Neither
+better None (Some second) = Second second.size
+better (Some first) None = First first.size
+better (Some first) (Some second) = cond (beats second first) (Second second.size) (First first.size)
 
 -- the winner of two buffers for a profile
 abbrev pub winner_for : List ℤ → ℤ → ℤ → List ℕ → List ℕ → List ℕ → Winner

@@ -1,7 +1,7 @@
 -- The record of a profile's first best synopsis: building is not refused, writing is refused with 6 alone, and the fields fit.
 use mathlib.Core.Path.{◌≡◌, sym, ap, subst, ◌∙◌}
 use mathlib.Core.List.{List, [], ◌∷◌}
-use Prim.Native.Nat.{ℕ, ◌≤◌, ◌<◌}
+use Prim.Native.Nat.{ℕ, ◌≤◌}
 use native.Mathlib.Omega.{arith}
 use lib.Dec.{T, ltb}
 use lib.IntN.{ℤ, nat_abs}
@@ -12,7 +12,6 @@ use mir.Syntax.{w32}
 use mir.Val.{SFits}
 use Rattle.limits.specs.Answers.{◌when◌, granted, laid}
 use Rattle.limits.proofs.Beyond.{band_not_below}
-use Rattle.limits.proofs.Refusals.{first_counts, granted_nothing}
 use Rattle.limits.proofs.Signed.{fits_32}
 use Rattle.bands.specs.Bands.{specials_among}
 use Rattle.bands.proofs.Bands.{few_among}
@@ -23,19 +22,22 @@ use Rattle.histogram.specs.Terms.{paired}
 use Rattle.histogram.specs.Errors.{greatest_error}
 use Rattle.histogram.proofs.Powers.{padded_bound}
 use Rattle.record.specs.Record.{record_bytes}
-use Rattle.record_write.specs.declared.WriteAnswer.{WriteAnswer}
+use Rattle.std.specs.Prelude.{Result, Ok, Err}
+use Rattle.refusals.specs.declared.Refusal.{Refusal}
+use Rattle.refusals.specs.Rows.{row}
+use Rattle.refusals.proofs.Rows.{row_first, row_nothing}
 use Rattle.record_write.specs.Inner.{Writable, BandsWritten}
 use Rattle.claims.specs.Best.{Best}
 use Rattle.claims.specs.First.{first_synopsis}
 use Rattle.claims.proofs.First.{synopsis_first}
-use Rattle.build.specs.declared.BuildAnswer.{BuildAnswer}
+use Rattle.build.specs.declared.BuiltSynopsis.{BuiltSynopsis}
 use Rattle.build.specs.Building.{handed_over}
 use Rattle.build.specs.Inner.{KnownProfile, Buildable, FirstBuilt}
 use Rattle.build.proofs.Accepted.{ProfileAccepted, profile_accepted}
 use Rattle.build.proofs.FewTerms.{best_few}
 use Rattle.panel.specs.Results.{packed_fields, text_record, text_to_record_refusal, TextToRecord}
 use Rattle.panel.specs.Inner.{built_length, RecordBuilt}
-use Rattle.panel.proofs.Packing.{refused_result}
+use Rattle.panel.proofs.Packing.{refused_packed}
 use Rattle.panel.proofs.Longest.{length_bound}
 
 -- no more terms than nodes, and than values
@@ -88,7 +90,7 @@ module _ {profile : List ℤ} {bands : List ℕ} {rest band : ℤ} {specials : �
     destination_long = omega (arith, of_nodes, padded_bound accepted.slots.few_slots);
   }
 
-  module _ {answer : BuildAnswer} {nodes nodes' : List ℕ} {values values' : List ℤ} (built : FirstBuilt profile rest bands answer nodes nodes' values values') where
+  module _ {answer : BuiltSynopsis} {nodes nodes' : List ℕ} {values values' : List ℤ} (built : FirstBuilt profile rest bands answer nodes nodes' values values') where
     abbrev count : ℕ
     count = answer.count
 
@@ -116,8 +118,8 @@ module _ {profile : List ℤ} {bands : List ℕ} {rest band : ℤ} {specials : �
     pub terms_few : count ≤ 512
     terms_few = omega (arith, built.count_is, ap (λ (terms : List Term). length terms) built.terms_are, best_few accepted.in_range known.right.each_band best, padded_bound accepted.slots.few_slots)
 
-    module _ {written : WriteAnswer} {before after : List ℕ}
-        (record_written : BandsWritten (length profile) (nat_abs band) rest (handed_over count nodes' values') (specials_among (nat_abs band) bands) written before after) (number : ℕ) where
+    module _ {written : Result ℕ Refusal} {before after : List ℕ}
+        (record_written : BandsWritten (length profile) (nat_abs band) rest (handed_over count nodes' values') (specials_among (nat_abs band) bands) written before after) where
       -- of the first best synopsis
       of_first : BandsWritten (length profile) (nat_abs band) rest (first_synopsis profile rest bands) (specials_among (nat_abs band) bands) written before after
       of_first = subst (λ (terms : List Term). BandsWritten (length profile) (nat_abs band) rest terms (specials_among (nat_abs band) bands) written before after) built.terms_are record_written
@@ -126,46 +128,49 @@ module _ {profile : List ℤ} {bands : List ℕ} {rest band : ℤ} {specials : �
           ≡ laid (granted (6 when ltb (length before) (built_length profile bands rest (nat_abs band))) (record_bytes (length profile) (nat_abs band) rest (first_synopsis profile rest bands) (specials_among (nat_abs band) bands)) []) before
       destination = rw of_first.refusal_is at of_first.destination_is
 
-      pub record_refused : 0 < written.refusal → number ≡ packed_fields written.refusal 0 0 0 → RecordBuilt profile bands rest (nat_abs band) before after number
-      record_refused wrong number_is = record {
-        result_is = number_is ∙ rw (← of_first.refusal_is) (refused_result written.refusal _ _ _ wrong);
-        destination_is = destination;
-      }
-
-      bytes_are : written.refusal ≤ 0 → written.count ≡ built_length profile bands rest (nat_abs band)
-      bytes_are right' =
-          let none : written.refusal ≡ 0 = omega arith in
-          rw none at of_first.count_is
-
-      pub record_built : written.refusal ≤ 0 → number ≡ packed_fields 0 written.count count answer.error → RecordBuilt profile bands rest (nat_abs band) before after number
-      record_built right' number_is =
-          let none : written.refusal ≡ 0 = omega arith in
-          let terms_counted : count ≡ length (first_synopsis profile rest bands) = built.count_is ∙ ap (λ (terms : List Term). length terms) built.terms_are in
-          let error_is : answer.error ≡ greatest_error profile rest (first_synopsis profile rest bands) = built.error_is ∙ ap (greatest_error profile rest) built.terms_are in
+      pub record_refused : {refusal : Refusal} → written ≡ Err refusal → RecordBuilt profile bands rest (nat_abs band) before after (packed_fields (row refusal) 0 0 0)
+      record_refused {refusal} wrong =
+          let is = rw wrong at of_first.refusal_is in
           record {
-            result_is = number_is ∙ rw (← of_first.refusal_is, none, bytes_are right', terms_counted, error_is);
+            result_is = rw (← is) (refused_packed refusal _ _ _);
             destination_is = destination;
           }
 
-      -- the record is no longer than that of 512 terms and 512 special slots
-      pub bytes_few : written.refusal ≤ 0 → written.count ≤ 3273
-      bytes_few right' =
-          omega (
-            arith,
-            bytes_are right',
-            length_bound (length (first_synopsis profile rest bands)) (length (specials_among (nat_abs band) bands))
-                (omega (arith, best_few accepted.in_range known.right.each_band best, padded_bound accepted.slots.few_slots))
-                (omega (arith, few_among (nat_abs band) bands, known.right.each_band, accepted.slots.few_slots)),
-          )
+      module _ {bytes : ℕ} (right : written ≡ Ok bytes) where
+        none : 0 ≡ (6 when ltb (length before) (built_length profile bands rest (nat_abs band)))
+        none = rw right at of_first.refusal_is
+
+        bytes_are : bytes ≡ built_length profile bands rest (nat_abs band)
+        bytes_are = rw right at of_first.count_is
+
+        pub record_built : RecordBuilt profile bands rest (nat_abs band) before after (packed_fields 0 bytes count answer.error)
+        record_built =
+            let terms_counted : count ≡ length (first_synopsis profile rest bands) = built.count_is ∙ ap (λ (terms : List Term). length terms) built.terms_are in
+            let error_is : answer.error ≡ greatest_error profile rest (first_synopsis profile rest bands) = built.error_is ∙ ap (greatest_error profile rest) built.terms_are in
+            record {
+              result_is = rw (← none, bytes_are, terms_counted, error_is);
+              destination_is = destination;
+            }
+
+        -- the record is no longer than that of 512 terms and 512 special slots
+        pub bytes_few : bytes ≤ 3273
+        bytes_few =
+            omega (
+              arith,
+              bytes_are,
+              length_bound (length (first_synopsis profile rest bands)) (length (specials_among (nat_abs band) bands))
+                  (omega (arith, best_few accepted.in_range known.right.each_band best, padded_bound accepted.slots.few_slots))
+                  (omega (arith, few_among (nat_abs band) bands, known.right.each_band, accepted.slots.few_slots)),
+            )
 
 -- ---- text to record
 
-pub refused_text : (text before : List ℕ) (refusal number : ℕ) → refusal ≡ text_refusal text → 0 < refusal → number ≡ packed_fields refusal 0 0 0 → TextToRecord text before before number
-refused_text text before refusal number is wrong number_is =
-    let counts : text_to_record_refusal text (length before) ≡ refusal = rw (← is) (first_counts refusal _ wrong) in
+pub refused_text : (text before : List ℕ) (refusal : Refusal) → row refusal ≡ text_refusal text → TextToRecord text before before (packed_fields (row refusal) 0 0 0)
+refused_text text before refusal is =
+    let counts : text_to_record_refusal text (length before) ≡ row refusal = rw (← is) (row_first refusal _) in
     record {
-      result_is = number_is ∙ rw counts (refused_result refusal _ _ _ wrong);
-      destination_is = sym (rw (counts, granted_nothing refusal (text_record text) [] wrong));
+      result_is = rw counts (refused_packed refusal _ _ _);
+      destination_is = sym (rw (counts, row_nothing refusal (text_record text) []));
     }
 
 pub text_built : {text : List ℕ} {rest band : ℤ} {slots specials : ℕ} {room profile : List ℤ} {room_bands bands : List ℕ} {before after : List ℕ} {number : ℕ}

@@ -1,18 +1,19 @@
 -- What inner functions ask and promise. A reader of the promises need not open this file.
-use Rattle.std.specs.Prelude.{◌≡◌, List, [], ℕ, ◌<◌, ltb, ℤ, length}
+use Rattle.std.specs.Prelude.{◌≡◌, List, [], ℕ, ltb, ℤ, length, Result, Ok, Err}
 use Rattle.limits.specs.Answers.{◌when◌, granted, laid}
+use Rattle.refusals.specs.declared.Refusal.{Refusal}
+use Rattle.refusals.specs.Rows.{row}
 use Rattle.bands.specs.Bands.{specials_among}
 use Rattle.histogram.specs.Errors.{greatest_error}
 use Rattle.record.specs.Record.{record_length, record_bytes}
 use Rattle.claims.specs.First.{first_synopsis}
-use Rattle.panel.specs.Results.{result}
+use Rattle.panel.specs.declared.Fields.{Fields}
+use Rattle.panel.specs.Results.{packed_fields, result}
 
--- numbers that fit four fields
-pub record Fields (refusal first second third : ℕ) : Type 0 where
-  pub refusal_fits : refusal < 65536
-  pub first_fits : first < 65536
-  pub second_fits : second < 65536
-  pub third_fits : third < 65536
+-- a call's answer in one number: 0 and its fields, or the refusal's number and fields of 0
+abbrev pub packed : Result Fields Refusal → ℕ
+packed (Ok fields) = packed_fields 0 fields.first fields.second fields.third
+packed (Err refusal) = packed_fields (row refusal) 0 0 0
 
 -- the bytes of the record of a profile's first best synopsis, with its special slots by a common band
 abbrev pub built_length : List ℤ → List ℕ → ℤ → ℕ → ℕ

@@ -1,31 +1,56 @@
 // The library's face for C: numbers and byte slices alone. Every call answers with one number of four 16-bit fields.
 // `panel_c` has C call each function of it under its own name.
+// Its arrays have the greatest size that can be needed: the panel has no heap.
 #![tactic(auto)]
 
 ghost use Rattle.std.specs.Prelude.{◌≡◌, nat_abs};
-ghost use Rattle.limits.specs.Answers.{◌when◌};
 ghost use Rattle.panel.specs.Results.{packed_fields, slot_result, against_text_result, TextToRecord, LeastBandOfText, better_offer_result, flow_result, step_result};
-ghost use Rattle.panel.specs.Inner.{Fields, RecordBuilt};
+ghost use Rattle.panel.specs.Inner.{packed, RecordBuilt};
 ghost use Rattle.build.specs.Inner.{KnownProfile};
 
 use air::{flow_of_step, step_for_flow};
 use bits::complement_of;
 use build::{build_first, least_band};
 use offers::{Winner, choose_offer};
-use profile::{TextAnswer, read_text};
+use profile::{TextNumbers, read_text};
 use record_check::{check_record, read_slot};
 use record_write::write_for_bands;
+use refusals::Refusal;
+
+// The three fields that a call answers with where it is not refused.
+#[derive(Clone, Copy, Debug, PartialEq, Eq)]
+struct Fields {
+    pub first: u16,
+    pub second: u16,
+    pub third: u16,
+}
+
+impl Fields {
+    // One number alone.
+    fn alone(first: u16) -> Self
+        ensures { (result.first ≡ first) × (result.second ≡ 0) × (result.third ≡ 0) }
+    {
+        Fields {
+            first,
+            second: 0,
+            third: 0,
+        }
+    }
+}
 
 // A profile text to the record of its first best synopsis: bytes written, terms, greatest error.
 pub fn panel_text_to_record(text: &[u8], destination: &mut [u8]) -> u64
     ensures { TextToRecord text.now destination.old destination.new result }
 {
+    pack(text_to_record(text, destination))
+}
+
+fn text_to_record(text: &[u8], destination: &mut [u8]) -> Result<Fields, Refusal>
+    ensures { TextToRecord text.now destination.old destination.new (packed result) }
+{
     let mut setpoints = [0i16; 512];
     let mut bands = [0u16; 512];
-    let numbers = read_text(text, &mut setpoints, &mut bands);
-    if 0 < numbers.refusal {
-        return pack(numbers.refusal as u64, 0, 0, 0);
-    }
+    let numbers = read_text(text, &mut setpoints, &mut bands)?;
     let slots = numbers.slots;
     build_record(&setpoints[..slots], &bands[..slots], numbers, destination)
 }
@@ -34,11 +59,11 @@ pub fn panel_text_to_record(text: &[u8], destination: &mut [u8]) -> u64
 fn build_record(
     setpoints: &[i16],
     bands: &[u16],
-    numbers: TextAnswer,
+    numbers: TextNumbers,
     destination: &mut [u8],
-) -> u64
+) -> Result<Fields, Refusal>
     requires { KnownProfile setpoints.now bands.now numbers.rest numbers.band numbers.specials }
-    ensures { RecordBuilt setpoints.now bands.now numbers.rest (nat_abs numbers.band) destination.old destination.new result }
+    ensures { RecordBuilt setpoints.now bands.now numbers.rest (nat_abs numbers.band) destination.old destination.new (packed result) }
 {
     let mut nodes = [0u16; 512];
     let mut values = [0i16; 512];
@@ -63,11 +88,12 @@ fn build_record(
         bands,
         numbers.specials,
         destination,
-    );
-    if 0 < written.refusal {
-        return pack(written.refusal as u64, 0, 0, 0);
-    }
-    pack(0, written.count as u64, count as u64, built.error as u64)
+    )?;
+    Ok(Fields {
+        first: written as u16,
+        second: count as u16,
+        third: built.error,
+    })
 }
 
 // One slot of a record: the setpoint in two's complement.
@@ -75,65 +101,70 @@ pub fn panel_record_slot(bytes: &[u8], slot: u64) -> u64
     ensures { result ≡ slot_result bytes.now slot }
 {
     let answer = read_slot(bytes, slot as usize);
-    pack(
-        answer.refusal as u64,
-        complement_of(16, answer.setpoint) as u64,
-        0,
-        0,
-    )
+    pack(answer.map(|setpoint| Fields::alone(complement_of(16, setpoint))))
 }
 
 // A record against a text: whether the record's bands are kept, the greatest error, the lowest slot whose error exceeds its band.
 pub fn panel_record_against_text(bytes: &[u8], text: &[u8]) -> u64
     ensures { result ≡ against_text_result bytes.now text.now }
 {
+    pack(record_against_text(bytes, text))
+}
+
+fn record_against_text(bytes: &[u8], text: &[u8]) -> Result<Fields, Refusal>
+    ensures { packed result ≡ against_text_result bytes.now text.now }
+{
     let mut setpoints = [0i16; 512];
     let mut bands = [0u16; 512];
-    let profile = read_text(text, &mut setpoints, &mut bands);
-    if 0 < profile.refusal {
-        return pack(profile.refusal as u64, 0, 0, 0);
-    }
+    let profile = read_text(text, &mut setpoints, &mut bands)?;
     let slots = profile.slots;
-    let answer = check_record(&setpoints[..slots], bytes);
-    pack(
-        answer.refusal as u64,
-        number_of(answer.kept),
-        answer.error as u64,
-        answer.slot as u64,
-    )
+    match check_record(&setpoints[..slots], bytes)? {
+        Ok(kept) => Ok(Fields {
+            first: 1,
+            second: kept.error,
+            third: 0,
+        }),
+        Err(beyond) => Ok(Fields {
+            first: 0,
+            second: 0,
+            third: beyond.slot,
+        }),
+    }
 }
 
 // The least band of a text without special slots for a number of terms.
 pub fn panel_least_band_of_text(text: &[u8], budget: u64) -> u64
     ensures { LeastBandOfText text.now budget result }
 {
+    pack(least_band_of_text(text, budget))
+}
+
+fn least_band_of_text(text: &[u8], budget: u64) -> Result<Fields, Refusal>
+    ensures { LeastBandOfText text.now budget (packed result) }
+{
     let mut setpoints = [0i16; 512];
     let mut bands = [0u16; 512];
-    let read = read_text(text, &mut setpoints, &mut bands);
-    if 0 < read.refusal {
-        return pack(read.refusal as u64, 0, 0, 0);
-    }
+    let read = read_text(text, &mut setpoints, &mut bands)?;
     if 0 < read.specials {
-        return pack(limits::HAS_SPECIALS as u64, 0, 0, 0);
+        return Err(Refusal::HasSpecials);
     }
     if 1023 < budget {
-        return pack(limits::BUDGET_BEYOND as u64, 0, 0, 0);
+        return Err(Refusal::BudgetBeyond);
     }
     let slots = read.slots;
     let mut scratch = [0i16; 12288];
-    let answer = least_band(&setpoints[..slots], read.rest, budget as u32, &mut scratch);
-    pack(0, answer.band as u64, 0, 0)
+    let band = least_band(&setpoints[..slots], read.rest, budget as u32, &mut scratch)?;
+    Ok(Fields::alone(band))
 }
 
 // The better of two offers for a text: which buffer's record wins, 0 for none, and how many bytes it has. Nothing is refused.
 pub fn panel_better_offer(text: &[u8], first: &[u8], second: &[u8]) -> u64
     ensures { result ≡ better_offer_result text.now first.now second.now }
 {
-    let winner = choose_offer(text, first, second);
-    match winner {
-        Winner::Neither => pack(0, 0, 0, 0),
-        Winner::First(size) => pack(0, 1, size as u64, 0),
-        Winner::Second(size) => pack(0, 2, size as u64, 0),
+    match choose_offer(text, first, second) {
+        Winner::Neither => pack_fields(0, 0, 0, 0),
+        Winner::First(size) => pack_fields(0, 1, size as u16, 0),
+        Winner::Second(size) => pack_fields(0, 2, size as u16, 0),
     }
 }
 
@@ -141,29 +172,30 @@ pub fn panel_better_offer(text: &[u8], first: &[u8], second: &[u8]) -> u64
 pub fn panel_flow_of_step(step: u64) -> u64
     ensures { result ≡ flow_result step }
 {
-    let answer = flow_of_step(step);
-    pack(answer.refusal as u64, answer.flow as u64, 0, 0)
+    pack(flow_of_step(step).map(|flow| Fields::alone(flow)))
 }
 
 // The lowest step of the air duct whose flow reaches a given one.
 pub fn panel_step_for_flow(flow: u64) -> u64
     ensures { result ≡ step_result flow }
 {
-    let answer = step_for_flow(flow);
-    pack(answer.refusal as u64, answer.step as u64, 0, 0)
+    pack(step_for_flow(flow).map(|step| Fields::alone(step)))
 }
 
-// Four fields in one number, lowest first.
-fn pack(refusal: u64, first: u64, second: u64, third: u64) -> u64
-    requires { Fields refusal first second third }
+// A call's answer in one number: 0 and its fields, or the refusal's number and fields of 0.
+fn pack(answer: Result<Fields, Refusal>) -> u64
+    ensures { result ≡ packed answer }
+{
+    match answer {
+        Ok(fields) => pack_fields(0, fields.first, fields.second, fields.third),
+        Err(refusal) => pack_fields(refusal.row(), 0, 0, 0),
+    }
+}
+
+// Four fields in one number, lowest first; C takes the refusal as a number.
+fn pack_fields(refusal: u8, first: u16, second: u16, third: u16) -> u64
     ensures { result ≡ packed_fields refusal first second third }
 {
-    refusal + 65536 * (first + 65536 * (second + 65536 * third))
-}
-
-// 1 where a test holds, and 0 where not.
-fn number_of(test: bool) -> u64
-    ensures { result ≡ 1 when test }
-{
-    if test { 1 } else { 0 }
+    u64::from(refusal)
+        + 65536 * (u64::from(first) + 65536 * (u64::from(second) + 65536 * u64::from(third)))
 }

@@ -6,8 +6,10 @@ ghost use Rattle.std.specs.Prelude.{◌≡◌, ◌++◌, ◌↔◌, All, IsTrue,
 ghost use Rattle.std.specs.List.{flat_map};
 ghost use Rattle.std.specs.Fmt.{decimal, signed_decimal};
 ghost use Rattle.std.specs.Io.KnownBytes.{Appends};
+ghost use Rattle.refusals.specs.Answers.{refused_with};
 ghost use Rattle.printing.specs.Printed.{setpoint_text, term_text, special_text, byte_text};
 
+use refusals::Refusal;
 use std::io;
 use std::io::Write;
 
@@ -31,14 +33,14 @@ fn print_number<W: Write>(out: &mut W, number: i32) -> io::Result<()>
     if number < 0 {
         print(out, b"-")?;
     }
-    write!(out, "{}", limits::magnitude(number))
+    write!(out, "{}", number.unsigned_abs())
 }
 
 // Prints the value of a term, or a setpoint.
 fn print_value<W: Write>(out: &mut W, value: i16) -> io::Result<()>
     ensures { OnOk result (Appends (W.contents out.old) (W.contents out.new) (signed_decimal value)) }
 {
-    print_number(out, value as i32)
+    print_number(out, i32::from(value))
 }
 
 // Prints a call and what it is given.
@@ -65,11 +67,15 @@ pub fn print_number_after<W: Write>(out: &mut W, what: &[u8], number: i32) -> io
     print_number(out, number)
 }
 
-// Prints the refusal's number, with which an answer begins.
-pub fn print_refusal<W: Write>(out: &mut W, refusal: u8) -> io::Result<()>
-    ensures { OnOk result (Appends (W.contents out.old) (W.contents out.new) (codes ": " ++ decimal refusal)) }
+// Prints the number of an answer's refusal, 0 for none, with which the answer begins.
+pub fn print_outcome<W: Write, T>(out: &mut W, answer: &Result<T, Refusal>) -> io::Result<()>
+    ensures { OnOk result (Appends (W.contents out.old) (W.contents out.new) (codes ": " ++ decimal (refused_with answer.now))) }
 {
-    print_count_after(out, b": ", refusal as usize)
+    let number = match answer {
+        Ok(_) => 0,
+        Err(refusal) => refusal.row(),
+    };
+    print_count_after(out, b": ", usize::from(number))
 }
 
 // Prints a setpoint after a space.
@@ -84,11 +90,8 @@ pub fn print_setpoint<W: Write>(out: &mut W, setpoint: i16) -> io::Result<()>
 pub fn print_setpoints<W: Write>(out: &mut W, setpoints: &[i16]) -> io::Result<()>
     ensures { OnOk result (Appends (W.contents out.old) (W.contents out.new) (flat_map setpoint_text setpoints.now)) }
 {
-    let mut slot = 0;
-    while slot < setpoints.len() {
-        let setpoint = setpoints[slot];
-        print_setpoint(out, setpoint)?;
-        slot += 1;
+    for setpoint in setpoints {
+        print_setpoint(out, *setpoint)?;
     }
     Ok(())
 }
@@ -97,7 +100,7 @@ pub fn print_setpoints<W: Write>(out: &mut W, setpoints: &[i16]) -> io::Result<(
 pub fn print_term<W: Write>(out: &mut W, node: u16, value: i16) -> io::Result<()>
     ensures { OnOk result (Appends (W.contents out.old) (W.contents out.new) (term_text node value)) }
 {
-    print_number_after(out, b" ", node as i32)?;
+    print_number_after(out, b" ", i32::from(node))?;
     print(out, b":")?;
     print_value(out, value)
 }
@@ -106,8 +109,8 @@ pub fn print_term<W: Write>(out: &mut W, node: u16, value: i16) -> io::Result<()
 pub fn print_special<W: Write>(out: &mut W, slot: u16, band: u16) -> io::Result<()>
     ensures { OnOk result (Appends (W.contents out.old) (W.contents out.new) (special_text slot band)) }
 {
-    print_number_after(out, b" ", slot as i32)?;
-    print_number_after(out, b":", band as i32)
+    print_number_after(out, b" ", i32::from(slot))?;
+    print_number_after(out, b":", i32::from(band))
 }
 
 // Prints whether lent numbers, which held the same in every place, hold it still.
@@ -126,32 +129,16 @@ pub fn print_unchanged<W: Write>(out: &mut W, numbers: &[i16], held: i16) -> io:
 fn are_all(numbers: &[i16], number: i16) -> bool
     ensures { IsTrue result ↔ All (λ found. found ≡ number) numbers.now }
 {
-    let mut i = 0;
-    while i < numbers.len() {
-        let found = numbers[i];
-        if found != number {
-            return false;
-        }
-        i += 1;
-    }
-    true
+    numbers.iter().all(|found| *found == number)
 }
 
 // Prints bytes in hexadecimal, each after a space.
 pub fn print_bytes<W: Write>(out: &mut W, bytes: &[u8]) -> io::Result<()>
     ensures { OnOk result (Appends (W.contents out.old) (W.contents out.new) (flat_map byte_text bytes.now)) }
 {
-    let mut i = 0;
-    while i < bytes.len() {
+    for byte in bytes {
         print(out, b" ")?;
-        write!(out, "{:02x}", wide(bytes[i]))?;
-        i += 1;
+        write!(out, "{:02x}", byte)?;
     }
     Ok(())
-}
-
-fn wide(byte: u8) -> u64
-    ensures { result ≡ byte }
-{
-    byte as u64
 }

@@ -11,6 +11,7 @@ use lib.ListN.{length, get_or, take, length-map}
 use borrow.Author.Tests.{ltb-false, le-ltb, ne_eqb}
 use mir.Syntax.{w32}
 use mir.Val.{SFits}
+use Rattle.std.specs.Prelude.{Ok}
 use Rattle.limits.specs.Answers.{◌then◌}
 use Rattle.limits.specs.Limits.{beyond, outside_band, outside_slots, any_beyond}
 use Rattle.limits.proofs.Beyond.{band_accepted}
@@ -21,7 +22,7 @@ use Rattle.bands.specs.Bands.{right_specials}
 use Rattle.bands.proofs.Bands.{specials_right_lem}
 use Rattle.decimal.specs.Answers.{number_or}
 use Rattle.profile.specs.Text.{Slot, line_refusal, value_refusal, band_refusal, is_empty, following, line_slot, no_slot, read_refusal, slot_line_refusal, slots_refusal, slots_read, head_refusal, setpoints_text, text_refusal, rest_of, band_of, text_slots, setpoints_of, bands_of, specials_of}
-use Rattle.profile.specs.declared.TextAnswer.{TextAnswer}
+use Rattle.profile.specs.declared.TextNumbers.{TextNumbers}
 use Rattle.profile.specs.Answers.{TextRead}
 use Rattle.profile.specs.Inner.{setpoints_in, bands_in}
 use Rattle.profile.proofs.Checks.{line_passes, Within, slot_within}
@@ -112,22 +113,20 @@ pub record Held (text : List ℕ) (rest band : ℤ) (slots specials : ℕ) (setp
   pub setpoints_are : take slots setpoints ≡ setpoints_of text
   pub bands_are : take slots bands ≡ bands_of text
 
-pub held : {text : List ℕ} {answer : TextAnswer} {setpoints setpoints' : List ℤ} {bands bands' : List ℕ} → TextRead text answer setpoints setpoints' bands bands' → answer.refusal ≤ 0
-    → Held text answer.rest answer.band answer.slots answer.specials setpoints' bands'
-held {text} {answer} {setpoints} {setpoints'} {bands} {bands'} read right =
-    let is_zero : answer.refusal ≡ 0 = omega arith in
-    let slots_are : answer.slots ≡ length (setpoints_of text) = rw is_zero at read.numbers.slots_is in
-    let bands_many : length (bands_of text) ≡ answer.slots = as_many_bands text ∙ sym slots_are in
+pub held : {text : List ℕ} {numbers : TextNumbers} {setpoints setpoints' : List ℤ} {bands bands' : List ℕ} → TextRead text (Ok numbers) setpoints setpoints' bands bands'
+    → Held text numbers.rest numbers.band numbers.slots numbers.specials setpoints' bands'
+held {text} {numbers} {setpoints} {setpoints'} {bands} {bands'} read =
+    let bands_many : length (bands_of text) ≡ numbers.slots = as_many_bands text ∙ sym read.numbers.slots_is in
     record {
-      not_refused = sym read.refusal_is ∙ is_zero;
-      rest_is = rw is_zero at read.numbers.rest_is;
-      band_is = rw is_zero at read.numbers.band_is;
-      slots_is = slots_are;
-      specials_is = rw is_zero at read.numbers.specials_is;
-      inside = rw read.setpoints_are (omega (arith, room_for (setpoints_of text) setpoints));
+      not_refused = sym read.refusal_is;
+      rest_is = read.numbers.rest_is;
+      band_is = read.numbers.band_is;
+      slots_is = read.numbers.slots_is;
+      specials_is = read.numbers.specials_is;
+      inside = rw read.setpoints_are (omega (arith, room_for (setpoints_of text) setpoints, read.numbers.slots_is));
       bands_inside = rw read.bands_are (omega (arith, room_for (bands_of text) bands));
-      setpoints_are = rw read.setpoints_are (front_of (setpoints_of text) setpoints answer.slots (sym slots_are));
-      bands_are = rw read.bands_are (front_of (bands_of text) bands answer.slots bands_many);
+      setpoints_are = rw read.setpoints_are (front_of (setpoints_of text) setpoints numbers.slots (sym read.numbers.slots_is));
+      bands_are = rw read.bands_are (front_of (bands_of text) bands numbers.slots bands_many);
     }
 
 -- the numbers of such a text fit 32 bits

@@ -12,15 +12,19 @@ use lib.IntN.{ℤ, pos}
 use lib.ListN.{length, take, drop, length-drop}
 use lib.Seq.{take_all, take-add, drop_at, length-take-le}
 use borrow.Author.Tests.{ltb-true, ltb-false, lt-ltb, le-ltb}
+use Rattle.std.specs.Prelude.{Result, Ok, Err}
 use Rattle.limits.specs.Answers.{◌when◌, ◌then◌, laid}
 use Rattle.limits.proofs.Refusals.{none_of_two, passed, then_same, granted_same}
+use Rattle.refusals.specs.declared.Refusal.{Refusal}
+use Rattle.refusals.specs.Answers.{refused_with}
 use Rattle.decimal.specs.Number.{longest_number, reads_as}
 use Rattle.decimal.specs.Answers.{number_or}
 use Rattle.decimal.proofs.ShortNumbers.{either_none, too_long_number}
 use Rattle.profile.specs.Text.{Slot, longest_line, longest_slot_line, longest_text, before, behind, line, ended, following, line_number, no_slot, line_band, slot_of, line_slot, read_refusal, line_refusal, value_refusal, band_refusal, is_empty, slot_line_refusal, slots_refusal, slots_read, head_refusal, setpoints_text, band_of, text_refusal, text_slots, setpoints_of, bands_of}
-use Rattle.profile.specs.declared.TextAnswer.{TextAnswer}
+use Rattle.profile.specs.declared.TextNumbers.{TextNumbers}
 use Rattle.profile.specs.Answers.{NumbersOf, TextRead}
 use Rattle.profile.specs.Inner.{setpoints_in, bands_in}
+use Rattle.profile.proofs.Texts.{refused_numbers}
 
 -- a front that goes past the first line has the same first line
 line_of_front : (text : List ℕ) (bytes : ℕ) → length (line text) < bytes → line (take bytes text) ≡ line text
@@ -276,25 +280,18 @@ pub accepted_is_short : (text : List ℕ) → text_refusal text ≡ 0 → take (
 accepted_is_short text right = take_all (suc longest_text) text (omega (arith, accepted_length text right))
 
 -- so what is read of the first bytes is the answer for the text, refused or not
-pub first_bytes_read : (text : List ℕ) {answer : TextAnswer} {setpoints setpoints' : List ℤ} {bands bands' : List ℕ}
+pub first_bytes_read : (text : List ℕ) {answer : Result TextNumbers Refusal} {setpoints setpoints' : List ℤ} {bands bands' : List ℕ}
     → TextRead (take (suc longest_text) text) answer setpoints setpoints' bands bands' → TextRead text answer setpoints setpoints' bands bands'
 first_bytes_read text {answer} {setpoints} {setpoints'} {bands} read = record {
   refusal_is = is;
-  numbers = same_numbers answer.refusal refl;
+  numbers = same_numbers answer is read.numbers;
   setpoints_are = read.setpoints_are ∙ ap (λ (l : List ℤ). laid l setpoints) (first_bytes_setpoints text);
   bands_are = read.bands_are ∙ ap (λ (l : List ℕ). laid l bands) (first_bytes_bands text);
 }
   where
-    is : answer.refusal ≡ text_refusal text
+    is : refused_with answer ≡ text_refusal text
     is = read.refusal_is ∙ first_bytes_decide text
 
-    same_numbers : (refusal : ℕ) → answer.refusal ≡ refusal → NumbersOf text answer
-    same_numbers zero right = rw (accepted_is_short text (sym is ∙ right)) at read.numbers
-    same_numbers (suc refusal) wrong =
-        let numbers = read.numbers in
-        record {
-          rest_is = rw wrong (rw wrong at numbers.rest_is);
-          band_is = rw wrong (rw wrong at numbers.band_is);
-          slots_is = rw wrong (rw wrong at numbers.slots_is);
-          specials_is = rw wrong (rw wrong at numbers.specials_is);
-        }
+    same_numbers : (answer : Result TextNumbers Refusal) → refused_with answer ≡ text_refusal text → NumbersOf (take (suc longest_text) text) answer → NumbersOf text answer
+    same_numbers (Ok numbers) right of_front = rw (accepted_is_short text (sym right)) at of_front
+    same_numbers (Err refusal) wrong of_front = refused_numbers text refusal

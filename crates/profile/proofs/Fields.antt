@@ -3,13 +3,14 @@ use mathlib.Core.Path.{◌≡◌, refl, sym, ap, ◌∙◌}
 use mathlib.Core.Bool.{Bool, true, false, cond, ◌||◌, false≢true}
 use mathlib.Core.List.{List, ◌∷◌, ◌++◌}
 use mathlib.Core.Option.{none, some}
-use Prim.Native.Nat.{ℕ, suc, ◌+◌, ◌≤◌, ◌<◌}
+use Prim.Native.Nat.{ℕ, suc, ◌+◌, ◌-◌, ◌≤◌, ◌<◌}
 use native.Mathlib.Omega.{arith}
 use lib.Dec.{ltb, eqb}
 use lib.IntN.{ℤ}
 use lib.ListN.{length, get_or, take, drop, length-drop, length-take, get_or-eq_default}
 use lib.Seq.{get_or-drop, get_or-take, split_at, drop-drop}
 use borrow.Author.Tests.{ltb-true, ltb-false, ne_eqb, eqb-true}
+use Rattle.limits.proofs.Parts.{to_end}
 use Rattle.decimal.specs.Number.{reads_as}
 use Rattle.decimal.specs.Inner.{in_number, FrontRead}
 use Rattle.profile.specs.Text.{before, line, ended, following, line_number, slot_of, line_slot, line_band}
@@ -24,7 +25,11 @@ ends_number byte ends = by_end (eqb byte 10) refl (eqb byte 32) refl ends
     by_end false is true is_32 ends' = rw (eqb-true byte 32 is_32)
     by_end false is false is_32 ends' = absurd (false≢true ends')
 
--- the number at the front of a text from a place on; the line begins at that place
+-- the number at the front of a text from a place on, as `read_front` finds it in that part of the text
+pub front_from : (text : List ℕ) (at : ℕ) {number : ℤ} {count : ℕ} → FrontRead reads_as (take (length text - at) (drop at text)) number count → FrontRead reads_as (drop at text) number count
+front_from text at front = rw (to_end at text) at front
+
+-- the line begins at that place
 module _ (text : List ℕ) (at : ℕ) (number : ℤ) (count : ℕ) (front : FrontRead reads_as (drop at text) number count) where
   byte_behind : get_or (drop at text) count 0 ≡ get_or text (at + count) 0
   byte_behind = get_or-drop at text count 0

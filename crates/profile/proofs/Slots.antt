@@ -10,13 +10,18 @@ use lib.IntN.{ℤ, pos, nat_abs}
 use lib.ListN.{length, set, drop, length-append, length-map, drop_of_length-le}
 use lib.Seq.{drop-cons}
 use borrow.Author.Tests.{eq-eqb, ne_eqb}
+use Rattle.std.specs.Prelude.{Ok, Err}
 use Rattle.limits.specs.Answers.{◌then◌, granted, laid}
-use Rattle.limits.proofs.Laying.{length_laid, laid_more}
-use Rattle.limits.proofs.Refusals.{first_counts, granted_nothing}
+use Rattle.limits.proofs.Laying.{laid_more}
+use Rattle.refusals.specs.declared.Refusal.{Refusal}
+use Rattle.refusals.specs.declared.Refusal.TheVariants.{SlotsBeyond}
+use Rattle.refusals.specs.Rows.{row}
+use Rattle.refusals.proofs.Rows.{row_first, row_nothing}
 use Rattle.bands.specs.declared.SpecialSlot.{SpecialSlot}
 use Rattle.bands.specs.Bands.{specials_from, specials_among}
 use Rattle.bands.proofs.Bands.{few_among}
 use Rattle.decimal.specs.Answers.{number_or}
+use Rattle.profile.specs.declared.line.SlotLine.{SlotLine}
 use Rattle.profile.specs.Text.{Slot, is_empty, following, no_slot, line_slot, read_refusal, slot_line_refusal, slots_refusal, slots_read}
 use Rattle.profile.specs.Inner.{SlotRead, setpoints_in, bands_in, SlotsRead}
 
@@ -64,33 +69,68 @@ module _ (common : ℕ) (text : List ℕ) (from : ℕ) (setpoints setpoints' : L
     pub setpoints_are : setpoints' ≡ laid (setpoints_in done) setpoints
     pub bands_are : bands' ≡ laid (bands_in done) bands
 
+pub nothing_read : (common : ℕ) (text : List ℕ) (from : ℕ) (setpoints : List ℤ) (bands : List ℕ) → from ≤ length text → SoFar common text from setpoints setpoints bands bands from 0 0
+unfolding specials_from
+nothing_read common text from setpoints bands within = record {
+  done = [];
+  count_is = refl;
+  specials_is = refl;
+  few = omega arith;
+  in_text = within;
+  refusal_is = refl;
+  slots_are = refl;
+  setpoints_are = refl;
+  bands_are = refl;
+}
+
+-- the list of one more slot's numbers, laid by one store
+stored : {A : Type 0} (number : Slot → A) (done : List Slot) (slot : Slot) (before now : List A) (count : ℕ) → now ≡ laid (map number done) before → count ≡ length done
+    → count < length before → set now count (number slot) ≡ laid (map number (done ++ (slot ∷ []))) before
+stored {A} number done slot before now count is counted room =
+    ap₂ (λ (l : List A) (place : ℕ). set l place (number slot)) is (counted ∙ sym (length-map done number))
+    ∙ laid_more (map number done) before (number slot) (omega (arith, length-map done number))
+    ∙ ap (λ (l : List A). laid l before) (sym (map-append number done (slot ∷ [])))
+
+module _ {common : ℕ} {text : List ℕ} {from : ℕ} {setpoints setpoints' : List ℤ} {bands bands' : List ℕ} {at count specials : ℕ}
+    (so_far : SoFar common text from setpoints setpoints' bands bands' at count specials) where
+  pub few_specials : specials ≤ 512
+  few_specials =
+      omega (arith, few_among common (bands_in so_far.done), length-map so_far.done (λ (slot : Slot). nat_abs slot.band), so_far.specials_is, so_far.count_is, so_far.few)
+
   -- nothing more is read: the slots so far are all of them
-  stopped : (refusal : ℕ) → SoFar → refusal ≡ slots_refusal (pos common) (512 - count) (drop at text) → slots_read (pos common) (512 - count) (drop at text) ≡ []
-      → SlotsRead common text from refusal count specials setpoints setpoints' bands bands'
-  stopped refusal so_far is nothing =
-      let all : slots_read (pos common) 512 (drop from text) ≡ so_far.done =
-      so_far.slots_are ∙ ap (λ (slots : List Slot). so_far.done ++ slots) nothing ∙ append-nil so_far.done in
+  all_done : slots_read (pos common) (512 - count) (drop at text) ≡ [] → slots_read (pos common) 512 (drop from text) ≡ so_far.done
+  all_done nothing = so_far.slots_are ∙ ap (λ (slots : List Slot). so_far.done ++ slots) nothing ∙ append-nil so_far.done
+
+  stopped : (refusal : Refusal) → row refusal ≡ slots_refusal (pos common) (512 - count) (drop at text) → slots_read (pos common) (512 - count) (drop at text) ≡ []
+      → SlotsRead common text from (Err refusal) setpoints setpoints' bands bands'
+  stopped refusal is nothing =
+      let all = all_done nothing in
       record {
         refusal_is = is ∙ sym so_far.refusal_is;
-        count_is = rw all so_far.count_is;
-        specials_is = rw all so_far.specials_is;
+        counts_are = tt;
         setpoints_are = rw all so_far.setpoints_are;
         bands_are = rw all so_far.bands_are;
       }
 
   -- the text has ended
-  pub all_read : SoFar → length text ≤ at → SlotsRead common text from 0 count specials setpoints setpoints' bands bands'
-  all_read so_far past =
+  pub all_read : length text ≤ at → SlotsRead common text from (Ok (record { count = count; specials = specials })) setpoints setpoints' bands bands'
+  all_read past =
       let ended : drop at text ≡ [] = drop_of_length-le text {i = at} past in
-      stopped 0 so_far (rw ended (sym (no_refusal (pos common) (512 - count)))) (rw ended (none_read (pos common) (512 - count)))
+      let all = all_done (rw ended (none_read (pos common) (512 - count))) in
+      record {
+        refusal_is = sym (so_far.refusal_is ∙ rw ended (no_refusal (pos common) (512 - count)));
+        counts_are = record { count_is = rw all so_far.count_is; specials_is = rw all so_far.specials_is };
+        setpoints_are = rw all so_far.setpoints_are;
+        bands_are = rw all so_far.bands_are;
+      }
 
   module _ (more : at < length text) where
     -- a byte follows the 514th line
-    pub too_many : SoFar → count ≡ 512 → SlotsRead common text from 4 count specials setpoints setpoints' bands bands'
+    pub too_many : count ≡ 512 → SlotsRead common text from (Err SlotsBeyond) setpoints setpoints' bands bands'
     unfolding slots_refusal slots_read
-    too_many so_far full =
+    too_many full =
         let no_room : 512 - count ≡ 0 = omega arith in
-        stopped 4 so_far (rw (no_room, some_byte text at more)) (rw no_room)
+        stopped SlotsBeyond (rw (no_room, some_byte text at more)) (rw no_room)
 
     module _ (room : count < 512) where
       one_less : 512 - count ≡ suc (512 - (count + 1))
@@ -108,85 +148,44 @@ module _ (common : ℕ) (text : List ℕ) (from : ℕ) (setpoints setpoints' : L
       unfolding slots_read
       slots_next = rw (one_less, some_byte text at more)
 
-      module _ (refusal : ℕ) (setpoint : ℤ) (band next : ℕ) (line : SlotRead (line_slot (pos common) (drop at text)) text at refusal setpoint band next) where
-        pub line_wrong : SoFar → 0 < refusal → SlotsRead common text from refusal count specials setpoints setpoints' bands bands'
-        line_wrong so_far wrong =
-            let stays = first_counts refusal (slots_refusal (pos common) (512 - (count + 1)) (following (drop at text))) wrong in
-            stopped refusal so_far
-            (sym (refusal_next ∙ rw (← line.refusal_is) stays))
-            (slots_next ∙ rw (← line.refusal_is) (granted_nothing refusal _ [] wrong))
+      pub line_wrong : {refusal : Refusal} → SlotRead (line_slot (pos common) (drop at text)) text at (Err refusal)
+          → SlotsRead common text from (Err refusal) setpoints setpoints' bands bands'
+      line_wrong {refusal} read =
+          stopped refusal
+          (sym (refusal_next ∙ rw (← read.refusal_is) (row_first refusal (slots_refusal (pos common) (512 - (count + 1)) (following (drop at text))))))
+          (slots_next ∙ rw (← read.refusal_is) (row_nothing refusal _ []))
 
-pub nothing_read : (common : ℕ) (text : List ℕ) (from : ℕ) (setpoints : List ℤ) (bands : List ℕ) → from ≤ length text → SoFar common text from setpoints setpoints bands bands from 0 0
-unfolding specials_from
-nothing_read common text from setpoints bands within = record {
-  done = [];
-  count_is = refl;
-  specials_is = refl;
-  few = omega arith;
-  in_text = within;
-  refusal_is = refl;
-  slots_are = refl;
-  setpoints_are = refl;
-  bands_are = refl;
-}
+      -- a line read: its setpoint and band are stored, and what is left begins after it
+      module _ (room-setpoints : 512 ≤ length setpoints) (room_bands : 512 ≤ length bands) {line : SlotLine} (read : SlotRead (line_slot (pos common) (drop at text)) text at (Ok line)) where
+        abbrev slot : Slot
+        slot = record { setpoint = line.setpoint; band = pos line.band }
 
--- there is room for all slots, and what they are laid over keeps its length
-room_kept : {A : Type 0} (number : Slot → A) (done : List Slot) (before now : List A) → now ≡ laid (map number done) before → length done ≤ length before → length now ≡ length before
-room_kept number done before now is room = ap length is ∙ length_laid (map number done) before (omega (arith, length-map done number))
+        one_more : (specials' : ℕ) → specials' ≡ specials + cond (eqb line.band common) 0 1
+            → SoFar common text from setpoints (set setpoints' count line.setpoint) bands (set bands' count line.band) line.next (count + 1) specials'
+        one_more specials' specials_are =
+            let rest = read.line_is.rest_is in
+            let no_refusal_here : read_refusal slot_line_refusal (line_slot (pos common) (drop at text)) ≡ 0 = sym read.refusal_is in
+            let said = read.line_is.slot_is in
+            record {
+              done = so_far.done ++ (slot ∷ []);
+              count_is = simp length-append (omega (arith, so_far.count_is));
+              specials_is =
+                  specials_are
+                  ∙ ap (λ (n : ℕ). n + cond (eqb line.band common) 0 1) so_far.specials_is
+                  ∙ sym (ap (λ (l : List ℕ). length (specials_among common l)) (map-append _ so_far.done (slot ∷ [])) ∙ specials_more common 0 (bands_in so_far.done) line.band);
+              few = omega arith;
+              in_text = read.line_is.in_text;
+              refusal_is = so_far.refusal_is ∙ refusal_next ∙ rw (no_refusal_here, ← rest);
+              slots_are =
+                  so_far.slots_are
+                  ∙ ap (λ (slots : List Slot). so_far.done ++ slots) (slots_next ∙ rw (no_refusal_here, said, ← rest))
+                  ∙ sym (append_assoc so_far.done (slot ∷ []) (slots_read (pos common) (512 - (count + 1)) (drop line.next text)));
+              setpoints_are = stored (λ (slot : Slot). slot.setpoint) so_far.done slot setpoints setpoints' count so_far.setpoints_are so_far.count_is (omega arith);
+              bands_are = stored (λ (slot : Slot). nat_abs slot.band) so_far.done slot bands bands' count so_far.bands_are so_far.count_is (omega arith);
+            }
 
-module _ {common : ℕ} {text : List ℕ} {from : ℕ} {setpoints setpoints' : List ℤ} {bands bands' : List ℕ} {at count specials : ℕ}
-    (so_far : SoFar common text from setpoints setpoints' bands bands' at count specials) where
-  pub setpoints_kept : 512 ≤ length setpoints → length setpoints' ≡ length setpoints
-  setpoints_kept room =
-      room_kept (λ (slot : Slot). slot.setpoint) so_far.done setpoints setpoints' so_far.setpoints_are (omega (arith, so_far.count_is, so_far.few))
+        pub common_band : line.band ≡ common → SoFar common text from setpoints (set setpoints' count line.setpoint) bands (set bands' count common) line.next (count + 1) specials
+        common_band same = let none : specials ≡ specials + cond (eqb line.band common) 0 1 = rw (eq-eqb line.band common same) (omega arith) in rw same at (one_more specials none)
 
-  pub bands_kept : 512 ≤ length bands → length bands' ≡ length bands
-  bands_kept room =
-      room_kept (λ (slot : Slot). nat_abs slot.band) so_far.done bands bands' so_far.bands_are (omega (arith, so_far.count_is, so_far.few))
-
-  pub few_specials : specials ≤ 512
-  few_specials =
-      omega (arith, few_among common (bands_in so_far.done), length-map so_far.done (λ (slot : Slot). nat_abs slot.band), so_far.specials_is, so_far.count_is, so_far.few)
-
--- the list of one more slot's numbers, laid by one store
-stored : {A : Type 0} (number : Slot → A) (done : List Slot) (slot : Slot) (before now : List A) (count : ℕ) → now ≡ laid (map number done) before → count ≡ length done
-    → count < length before → set now count (number slot) ≡ laid (map number (done ++ (slot ∷ []))) before
-stored {A} number done slot before now count is counted room =
-    ap₂ (λ (l : List A) (place : ℕ). set l place (number slot)) is (counted ∙ sym (length-map done number))
-    ∙ laid_more (map number done) before (number slot) (omega (arith, length-map done number))
-    ∙ ap (λ (l : List A). laid l before) (sym (map-append number done (slot ∷ [])))
-
--- a line read: its setpoint and band are stored, and what is left begins after it
-module _ (common : ℕ) (text : List ℕ) (from : ℕ) (setpoints setpoints' : List ℤ) (bands bands' : List ℕ) (at count specials : ℕ)
-    (more : at < length text) (room : count < 512) (room-setpoints : 512 ≤ length setpoints) (room_bands : 512 ≤ length bands)
-    (refusal : ℕ) (setpoint : ℤ) (band next : ℕ) (line : SlotRead (line_slot (pos common) (drop at text)) text at refusal setpoint band next) (right : refusal ≡ 0)
-    (so_far : SoFar common text from setpoints setpoints' bands bands' at count specials) where
-  abbrev slot : Slot
-  slot = record { setpoint = setpoint; band = pos band }
-
-  one_more : (specials' : ℕ) → specials' ≡ specials + cond (eqb band common) 0 1
-      → SoFar common text from setpoints (set setpoints' count setpoint) bands (set bands' count band) next (count + 1) specials'
-  one_more specials' specials_are =
-      let rest = line.rest_is right in
-      let no_refusal_here : read_refusal slot_line_refusal (line_slot (pos common) (drop at text)) ≡ 0 = sym line.refusal_is ∙ right in
-      let said = line.slot_is right in
-      record {
-        done = so_far.done ++ (slot ∷ []);
-        count_is = simp length-append (omega (arith, so_far.count_is));
-        specials_is = specials_are ∙ ap (λ (n : ℕ). n + cond (eqb band common) 0 1) so_far.specials_is ∙ sym (ap (λ (l : List ℕ). length (specials_among common l)) (map-append _ so_far.done (slot ∷ [])) ∙ specials_more common 0 (bands_in so_far.done) band);
-        few = omega arith;
-        in_text = line.in_text;
-        refusal_is = so_far.refusal_is ∙ refusal_next common text from setpoints setpoints' bands bands' at count specials more room ∙ rw (no_refusal_here, ← rest);
-        slots_are =
-            so_far.slots_are
-            ∙ ap (λ (slots : List Slot). so_far.done ++ slots) (slots_next common text from setpoints setpoints' bands bands' at count specials more room ∙ rw (no_refusal_here, said, ← rest))
-            ∙ sym (append_assoc so_far.done (slot ∷ []) (slots_read (pos common) (512 - (count + 1)) (drop next text)));
-        setpoints_are = stored (λ (slot : Slot). slot.setpoint) so_far.done slot setpoints setpoints' count so_far.setpoints_are so_far.count_is (omega arith);
-        bands_are = stored (λ (slot : Slot). nat_abs slot.band) so_far.done slot bands bands' count so_far.bands_are so_far.count_is (omega arith);
-      }
-
-  pub common_band : band ≡ common → SoFar common text from setpoints (set setpoints' count setpoint) bands (set bands' count common) next (count + 1) specials
-  common_band same = let none : specials ≡ specials + cond (eqb band common) 0 1 = rw (eq-eqb band common same) (omega arith) in rw same at (one_more specials none)
-
-  pub own_band : (band ≡ common → ⊥) → SoFar common text from setpoints (set setpoints' count setpoint) bands (set bands' count band) next (count + 1) (specials + 1)
-  own_band own = one_more (specials + 1) (rw (ne_eqb band common own))
+        pub own_band : (line.band ≡ common → ⊥) → SoFar common text from setpoints (set setpoints' count line.setpoint) bands (set bands' count line.band) line.next (count + 1) (specials + 1)
+        own_band own = one_more (specials + 1) (rw (ne_eqb line.band common own))

@@ -7,14 +7,14 @@ ghost use Rattle.record.specs.Inner.{PlacesAre, Counted};
 
 use bits::BitPlace;
 
-// The version of a record with that many special slots.
+// The version of a record with that many special slots. A version stays a number: the lengths and the places below are asked for with any number that stands in a record's bytes, and an enum of the known ones would ask for less.
 pub fn version_for(specials: usize) -> u16
     ensures { result ≡ version_for specials }
 {
     if specials == 0 { 1 } else { 2 }
 }
 
-// How many bytes a record of that version has, with that many terms and special slots.
+// How many bytes a record of that version has, with that many terms and special slots: the whole part of (its bits + 7) / 8, as document 01 counts them.
 pub fn record_length(version: u16, terms: usize, specials: usize) -> usize
     requires { Counted terms specials }
     ensures { result ≡ bytes_for version terms specials }
@@ -41,11 +41,11 @@ pub fn places() -> FieldPlaces
     let count = rest.after(BitPlace::REST);
     let terms = count.after(BitPlace::COUNT);
     FieldPlaces {
-        length: length,
-        band: band,
-        rest: rest,
-        count: count,
-        terms: terms,
+        length,
+        band,
+        rest,
+        count,
+        terms,
     }
 }
 
@@ -71,7 +71,8 @@ pub fn after_fields(version: u16, terms: usize, specials: usize) -> BitPlace
     ensures { result.at ≡ fields_end version terms specials }
 {
     if version == 2 {
-        return first_special(terms).after(BitPlace::SPECIAL * specials);
+        first_special(terms).after(BitPlace::SPECIAL * specials)
+    } else {
+        after_terms(terms)
     }
-    after_terms(terms)
 }

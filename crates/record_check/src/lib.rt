@@ -1,81 +1,61 @@
 // One slot of a record, and the check of setpoints against a record.
+// Terms come as two slices of equal length, nodes and values: document 01 has slices of structs in thin functions around such code.
+// Its arrays have the greatest size that can be needed: the panel has no heap.
 #![tactic(auto)]
 
-ghost use Rattle.std.specs.Prelude.{◌≡◌, length, take};
+ghost use Rattle.std.specs.Prelude.{◌≡◌, pos, length, take};
+ghost use Rattle.refusals.specs.Answers.{refused_with, answered};
 ghost use Rattle.verdict.specs.Verdict.{Judged};
 ghost use Rattle.record_check.specs.Checking.{SlotRead, Checked};
-ghost use Rattle.record_check.specs.Inner.{check_refused, room_terms, RecordJudgeable};
+ghost use Rattle.record_check.specs.Inner.{room_terms, RecordJudgeable};
 
-use histogram::restore::{SlotAnswer, restore_checked_slot};
-use record_read::{HeaderAnswer, read_into_room};
+use histogram::restore::restore_checked_slot;
+use record_read::{Header, read_into_room};
+use refusals::Refusal;
 use verdict::{Verdict, judge};
 
 // The setpoint restored in one slot of a record.
-pub fn read_slot(bytes: &[u8], slot: usize) -> SlotAnswer
-    ensures { SlotRead bytes.now slot result.refusal result.setpoint }
+pub fn read_slot(bytes: &[u8], slot: usize) -> Result<i16, Refusal>
+    ensures { SlotRead bytes.now slot (refused_with result) (answered (pos 0) result) }
 {
     let mut nodes = [0u16; 1023];
     let mut values = [0i16; 1023];
     let mut bands = [0u16; 512];
-    let header = read_into_room(bytes, &mut nodes, &mut values, &mut bands);
-    if 0 < header.refusal {
-        return SlotAnswer {
-            refusal: header.refusal,
-            setpoint: 0,
-        };
-    }
-    let count = header.count;
+    let read = read_into_room(bytes, &mut nodes, &mut values, &mut bands)?;
+    let count = read.count;
     restore_checked_slot(
-        header.slots,
-        header.rest,
+        read.slots,
+        read.rest,
         &nodes[..count],
         &values[..count],
         slot,
     )
 }
 
-// The check's answer: kept with the greatest error, or not kept with the lowest slot beyond its band.
-#[derive(Clone, Copy)]
-pub struct CheckAnswer {
-    pub refusal: u8,
-    pub kept: bool,
-    pub error: u16,
-    pub slot: u16,
-}
-
-// Checks setpoints against a record.
-pub fn check_record(setpoints: &[i16], bytes: &[u8]) -> CheckAnswer
+// Checks setpoints against a record: kept with the greatest error and the least margin, or not kept with the lowest slot beyond its band.
+pub fn check_record(setpoints: &[i16], bytes: &[u8]) -> Result<Verdict, Refusal>
     ensures { Checked setpoints.now bytes.now result }
 {
     if limits::is_outside_slots(setpoints.len()) {
-        return refused(limits::SLOTS_BEYOND);
+        return Err(Refusal::SlotsBeyond);
     }
     let mut nodes = [0u16; 1023];
     let mut values = [0i16; 1023];
     let mut bands = [0u16; 512];
-    let header = read_into_room(bytes, &mut nodes, &mut values, &mut bands);
-    if 0 < header.refusal {
-        return refused(header.refusal);
-    }
+    let header = read_into_room(bytes, &mut nodes, &mut values, &mut bands)?;
     if limits::is_any_beyond(setpoints) {
-        return refused(limits::VALUE_BEYOND);
+        return Err(Refusal::ValueBeyond);
     }
     if header.slots != setpoints.len() {
-        return refused(limits::LENGTH_DIFFERS);
+        return Err(Refusal::LengthDiffers);
     }
-    let verdict = judge_record(setpoints, header, &nodes, &values, &bands);
-    CheckAnswer {
-        refusal: 0,
-        kept: verdict.kept,
-        error: verdict.error,
-        slot: verdict.slot,
-    }
+    Ok(judge_record(setpoints, header, &nodes, &values, &bands))
 }
 
 // The verdict on a record that was read into room, whose terms and bands stand at the fronts of `nodes`, `values` and `bands`.
 pub fn judge_record(
     setpoints: &[i16],
-    header: HeaderAnswer,
+    header: Header,
     nodes: &[u16],
     values: &[i16],
     bands: &[u16],
@@ -92,15 +72,4 @@ pub fn judge_record(
         &nodes[..terms],
         &values[..terms],
     )
-}
-
-fn refused(refusal: u8) -> CheckAnswer
-    ensures { result ≡ check_refused refusal }
-{
-    CheckAnswer {
-        refusal: refusal,
-        kept: false,
-        error: 0,
-        slot: 0,
-    }
 }

@@ -37,9 +37,6 @@ module _ {bytes : List ℕ} {terms specials common : ℕ} {bands : List ℕ} (fi
   parts : WellFormed bytes
   parts = well_formed_parts bytes fits.form_is_right
 
-  pub long_enough : 7 ≤ length bytes
-  long_enough = parts.long_enough
-
   pub few : terms ≤ 1023
   few = rw fits.terms_is (few_terms bytes)
 
@@ -57,12 +54,6 @@ module _ {bytes : List ℕ} {terms specials common : ℕ} {bands : List ℕ} (fi
     module _ (not_first : version_in bytes ≡ 1 → ⊥) where
       second : version_in bytes ≡ 2
       second = second_version (version_in bytes) parts.known not_first
-
-      pub none_wrong : specials ≡ 0 → BandsRead bytes false filled
-      none_wrong none = record {
-        right_is = sym (by_tests bytes (eq-eqb (version_in bytes) 2 second) (eq-eqb (special_count_in bytes) 0 (sym fits.specials_is ∙ none)));
-        bands_are = λ impossible. absurd (false≢true impossible);
-      }
 
       pub walk_fits : (place : ℕ) → place ≡ terms_end terms + special_count_width → WalkFits bytes place specials filled
       walk_fits place is = record {

@@ -1,6 +1,5 @@
 pub mod Accepted
 pub mod Bands
-pub mod Frames
 pub mod Rooms
 pub mod Specials
 pub mod Terms

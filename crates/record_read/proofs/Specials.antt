@@ -1,15 +1,14 @@
 -- The walk that reads special slots one after another. What it keeps: the special slots from `place` on are right behind the last slot exactly where all are,
 -- and their bands, put over what is there now, give every slot what all of them give it.
-use mathlib.Core.Path.{◌≡◌, refl, sym, ap, ◌∙◌}
-use mathlib.Core.Bool.{true, false, ◌&&◌, false≢true}
+use mathlib.Core.Path.{◌≡◌, sym, ap, ◌∙◌}
+use mathlib.Core.Bool.{Bool, true, false, not, ◌&&◌, false≢true}
 use mathlib.Core.List.{List, ◌∷◌}
 use Prim.Native.Nat.{ℕ, suc, ◌+◌, ◌*◌, ◌-◌, ◌≤◌, ◌<◌}
-use native.Mathlib.Nat.{sub-zero}
 use native.Mathlib.Numerals.{add-one}
 use native.Mathlib.Omega.{arith}
 use lib.Dec.{leb, ltb}
 use lib.ListN.{length, get_or, set, length-set}
-use borrow.Author.Tests.{ltb-true}
+use borrow.Author.Tests.{ltb-true, not-true, not-false}
 use Rattle.limits.proofs.Tests.{both_hold}
 use Rattle.bands.specs.declared.SpecialSlot.{SpecialSlot}
 use Rattle.bands.specs.Bands.{right_from, right_specials, band_at}
@@ -40,9 +39,6 @@ module _ (bytes : List ℕ) (first count common : ℕ) (before : List ℕ) where
     pub put_same : RightFrom least n common (specials_at (count - i) place bytes) → (slot : ℕ)
         → band_at (get_or now slot 0) (specials_at (count - i) place bytes) slot ≡ band_at (get_or before slot 0) all slot
 
-  pub none_read : ReadUpTo before first 0 0
-  none_read = record { inside = omega arith; place_is = omega arith; same_length = refl; right_same = rw (sub-zero count); put_same = rw (sub-zero count) (λ right slot. refl) }
-
   module _ {now : List ℕ} {place least i : ℕ} (so_far : ReadUpTo now place least i) (more : i < count) where
     -- the special slot here, and those behind it
     abbrev here : SpecialSlot
@@ -58,9 +54,6 @@ module _ (bytes : List ℕ) (first count common : ℕ) (before : List ℕ) where
     turn : right_specials n common all ≡ (right_here least n common here.slot here.band && right_from (suc here.slot) n common others)
     turn = so_far.right_same ∙ ap (right_from least n common) left_are ∙ right_first least n common here others
 
-    pub wrong_here : (now' : List ℕ) → right_here least n common here.slot here.band ≡ false → WalkRead all common false before now'
-    wrong_here now' wrong = record { right_is = sym (turn ∙ rw wrong); put = λ impossible. absurd (false≢true impossible) }
-
     put_turn : right_here least n common here.slot here.band ≡ true → RightFrom (here.slot + 1) n common others → (slot : ℕ)
         → band_at (get_or (set now here.slot here.band) slot 0) others slot ≡ band_at (get_or before slot 0) all slot
     put_turn right behind slot =
@@ -71,15 +64,26 @@ module _ (bytes : List ℕ) (first count common : ℕ) (before : List ℕ) where
         ∙ ap (λ (left : List SpecialSlot). band_at (get_or now slot 0) left slot) (sym left_are)
         ∙ so_far.put_same (rw left_are from_here) slot
 
-    pub one_more_read : right_here least n common here.slot here.band ≡ true
-        → ReadUpTo (set now here.slot here.band) (place + layout_width special_layout) (here.slot + 1) (i + 1)
-    one_more_read right = record {
-      inside = omega arith;
-      place_is = omega (arith, so_far.place_is);
-      same_length = simp length-set so_far.same_length;
-      right_same = turn ∙ rw (right, add-one here.slot);
-      put_same = put_turn right;
-    }
+    -- what the test of the next special slot tests
+    module _ {slot band : ℕ} {wrong : Bool} (slot_is : slot ≡ here.slot) (band_is : band ≡ here.band) (test : wrong ≡ not (right_here least (length now) common slot band)) where
+      tested : wrong ≡ not (right_here least n common here.slot here.band)
+      tested = rw (slot_is, band_is, so_far.same_length) at test
+
+      pub wrong_here : (now' : List ℕ) → wrong ≡ true → WalkRead all common false before now'
+      wrong_here now' is =
+          let wrong_lem : right_here least n common here.slot here.band ≡ false = not-true (right_here least n common here.slot here.band) (sym tested ∙ is) in
+          record { right_is = sym (turn ∙ rw wrong_lem); put = λ impossible. absurd (false≢true impossible) }
+
+      pub one_more_read : {place' : ℕ} → wrong ≡ false → place' ≡ place + layout_width special_layout → ReadUpTo (set now slot band) place' (slot + 1) (i + 1)
+      one_more_read is next_is =
+          let right : right_here least n common here.slot here.band ≡ true = not-false (right_here least n common here.slot here.band) (sym tested ∙ is) in
+          rw (slot_is, band_is, next_is) record {
+            inside = omega arith;
+            place_is = omega (arith, so_far.place_is);
+            same_length = simp length-set so_far.same_length;
+            right_same = turn ∙ rw (right, add-one here.slot);
+            put_same = put_turn right;
+          }
 
   pub all_read : {now : List ℕ} {place least i : ℕ} → ReadUpTo now place least i → count ≤ i → WalkRead all common true before now
   unfolding entries_from right_from band_at

@@ -1,5 +1,5 @@
 -- What inner functions ask and promise. A reader of the promises need not open this file.
-use Rattle.std.specs.Prelude.{◌≡◌, Bool, true, false, List, [], ℕ, ◌+◌, ◌*◌, ◌^◌, ◌≤◌, ◌<◌, ltb, ℤ, pos, length, drop}
+use Rattle.std.specs.Prelude.{◌≡◌, Bool, true, cond, List, [], ℕ, ◌+◌, ◌*◌, ◌^◌, ◌≤◌, ◌<◌, ltb, ℤ, pos, Option, Some, None, Result, length, drop}
 use Rattle.limits.specs.Answers.{◌when◌, ◌then◌, granted, laid}
 use Rattle.limits.specs.Limits.{beyond}
 use Rattle.bands.specs.declared.SpecialSlot.{SpecialSlot}
@@ -12,19 +12,21 @@ use Rattle.record.specs.Layout.{layout_width, entries_from}
 use Rattle.record.specs.Record.{header_layout, special_layout, terms_end, fields_end, bytes_for, version_in, slots_in, band_in, rest_in, count_in, terms_from, terms_in, special_count_in, special_in, specials_in, known_version, well_formed, specials_right}
 use Rattle.record.specs.Answers.{header_refusal, record_refusal}
 use Rattle.record.specs.Inner.{Counted}
-use Rattle.record_read.specs.declared.HeaderAnswer.{HeaderAnswer}
+use Rattle.refusals.specs.declared.Refusal.{Refusal}
+use Rattle.refusals.specs.Answers.{refused_with, answered}
+use Rattle.record_read.specs.declared.Header.{Header}
 use Rattle.record_read.specs.declared.Frame.{Frame}
-use Rattle.record_read.specs.Reading.{HeaderOf}
+use Rattle.record_read.specs.Reading.{no_header, HeaderOf}
 
 -- a record read into room for 1,023 terms and the bands of 512 slots, for the calls that have no destination of the caller's.
 -- The room holds the terms where the header is not refused, and the band that each slot goes by where nothing is.
-pub record RoomRead (bytes : List ℕ) (answer : HeaderAnswer) (nodes nodes' : List ℕ) (values values' : List ℤ) (bands bands' : List ℕ) : Type 0 where
-  pub refusal_is : answer.refusal ≡ record_refusal bytes
+pub record RoomRead (bytes : List ℕ) (answer : Result Header Refusal) (nodes nodes' : List ℕ) (values values' : List ℤ) (bands bands' : List ℕ) : Type 0 where
+  pub refusal_is : refused_with answer ≡ record_refusal bytes
   pub header : HeaderOf bytes answer
   pub nodes_are : nodes' ≡ laid (granted (header_refusal bytes) (nodes_of (terms_in bytes)) []) nodes
   pub values_are : values' ≡ laid (granted (header_refusal bytes) (values_of (terms_in bytes)) []) values
   pub bands_long : length bands' ≡ length bands
-  pub bands_are : answer.refusal ≡ 0 → bands' ≡ laid (slot_bands (slots_in bytes) (band_in bytes) (specials_in bytes)) bands
+  pub bands_are : refused_with answer ≡ 0 → bands' ≡ laid (slot_bands (slots_in bytes) (band_in bytes) (specials_in bytes)) bands
 
 -- room for the nodes and the values of every record's terms, and for the bands of its slots
 pub record Room (nodes : List ℕ) (values : List ℤ) (bands : List ℕ) : Type 0 where
@@ -33,13 +35,8 @@ pub record Room (nodes : List ℕ) (values : List ℤ) (bands : List ℕ) : Type
   pub of_bands : 512 ≤ length bands
 
 -- whether a record passes row 7, and its counts of terms and special slots where it does
-pub record FrameRead (bytes : List ℕ) (frame : Frame) : Type 0 where
-  pub right_is : frame.right ≡ well_formed bytes
-  pub count_is : frame.right ≡ true → frame.count ≡ count_in bytes
-  pub specials_is : frame.right ≡ true → frame.specials ≡ special_count_in bytes
-
-abbrev pub no_frame : Frame
-no_frame = record { right = false; count = 0; specials = 0 }
+abbrev pub frame_in : List ℕ → Option Frame
+frame_in bytes = cond (well_formed bytes) (Some (record { count = count_in bytes; specials = special_count_in bytes })) None
 
 -- a version 2 of 7 bytes or more, and its count of terms
 pub record SecondOpen (bytes : List ℕ) (count : ℕ) : Type 0 where
@@ -69,22 +66,18 @@ abbrev pub fields_refusal : List ℕ → ℕ
 fields_refusal bytes = 2 when beyond 20000 (rest_in bytes) then 3 when ltb 40000 (band_in bytes)
 
 -- the header of a record whose counts are known
-pub record FieldsRead (bytes : List ℕ) (known knownSpecials : ℕ) (answer : HeaderAnswer) : Type 0 where
-  pub refusal_is : answer.refusal ≡ fields_refusal bytes
-  pub slots_is : answer.slots ≡ granted answer.refusal (slots_in bytes) 0
-  pub band_is : answer.band ≡ granted answer.refusal (pos (band_in bytes)) (pos 0)
-  pub rest_is : answer.rest ≡ granted answer.refusal (rest_in bytes) (pos 0)
-  pub count_is : answer.count ≡ granted answer.refusal known 0
-  pub specials_is : answer.specials ≡ granted answer.refusal knownSpecials 0
+pub record FieldsRead (bytes : List ℕ) (known knownSpecials : ℕ) (answer : Result Header Refusal) : Type 0 where
+  pub refusal_is : refused_with answer ≡ fields_refusal bytes
+  pub slots_is : (answered no_header answer).slots ≡ granted (refused_with answer) (slots_in bytes) 0
+  pub band_is : (answered no_header answer).band ≡ granted (refused_with answer) (pos (band_in bytes)) (pos 0)
+  pub rest_is : (answered no_header answer).rest ≡ granted (refused_with answer) (rest_in bytes) (pos 0)
+  pub count_is : (answered no_header answer).count ≡ granted (refused_with answer) known 0
+  pub specials_is : (answered no_header answer).specials ≡ granted (refused_with answer) knownSpecials 0
 
 -- the header of a record, with the refusals 7, 2 and 3
-pub record HeaderRead (bytes : List ℕ) (answer : HeaderAnswer) : Type 0 where
-  pub refusal_is : answer.refusal ≡ header_refusal bytes
+pub record HeaderRead (bytes : List ℕ) (answer : Result Header Refusal) : Type 0 where
+  pub refusal_is : refused_with answer ≡ header_refusal bytes
   pub header : HeaderOf bytes answer
-
--- "Every refusal returns its number with 0 for all other results"
-abbrev pub no_header : ℕ → HeaderAnswer
-no_header refusal = record { refusal = refusal; slots = 0; band = pos 0; rest = pos 0; count = 0; specials = 0 }
 
 -- a record that has that many terms, and room for them
 pub record TermsFit (bytes : List ℕ) (count : ℕ) (nodes : List ℕ) (values : List ℤ) : Type 0 where

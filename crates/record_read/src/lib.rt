@@ -1,19 +1,21 @@
 // Reading a record: its header, then its terms and the bands of its slots into room for all that a record can have.
+// Terms and special slots come as pairs of slices of equal length: document 01 has slices of structs in thin functions around such code.
+// Its arrays have the greatest size that can be needed: the panel has no heap.
 #![tactic(auto)]
 
 ghost use Rattle.std.specs.Prelude.{◌≡◌, ◌≤◌, length};
 ghost use Rattle.record_read.specs.Reading.{RecordRead};
-ghost use Rattle.record_read.specs.Inner.{Room, RoomRead, HeaderRead, no_frame, FrameRead, SecondOpen, FrameOpen, Framed, fill_after, FieldsRead, no_header, TermsFit, TermsLaid, BandsFit, BandsRead, specials_at, WalkFits, WalkRead};
+ghost use Rattle.record_read.specs.Inner.{Room, RoomRead, HeaderRead, frame_in, SecondOpen, FrameOpen, Framed, fill_after, FieldsRead, TermsFit, TermsLaid, BandsFit, BandsRead, specials_at, WalkFits, WalkRead};
 
 use bands::{fill, gather, is_wrong};
 use bits::BitPlace;
 use histogram::terms::{is_valid, padded_length};
 use record::{after_fields, after_terms, first_special, places, record_length};
+use refusals::Refusal;
 
-// A record's header, or the refusal with 0 for each. The band is the common one, `count` that of the terms and `specials` that of the special slots.
-#[derive(Clone, Copy)]
-pub struct HeaderAnswer {
-    pub refusal: u8,
+// A record's header. The band is the common one, `count` that of the terms and `specials` that of the special slots.
+#[derive(Clone, Copy, Debug)]
+pub struct Header {
     pub slots: usize,
     pub band: i32,
     pub rest: i32,
@@ -28,7 +30,7 @@ pub fn read_record(
     values: &mut [i16],
     specials: &mut [u16],
     own: &mut [u16],
-) -> HeaderAnswer
+) -> Result<Header, Refusal>
     requires { (length nodes.old ≡ length values.old) × (length specials.old ≡ length own.old) }
     ensures { RecordRead bytes.now result nodes.old nodes.new values.old values.new specials.old specials.new own.old own.new }
 {
@@ -40,22 +42,16 @@ pub fn read_record(
         &mut room_of_nodes,
         &mut room_of_values,
         &mut room_of_bands,
-    );
-    if 0 < header.refusal {
-        return header;
-    }
+    )?;
     let count = header.count;
-    if nodes.len() < count {
-        return refused(limits::OUTPUT_SHORT);
+    if nodes.len() < count || specials.len() < header.specials {
+        return Err(Refusal::OutputShort);
     }
-    if specials.len() < header.specials {
-        return refused(limits::OUTPUT_SHORT);
-    }
-    limits::lay_nodes(&room_of_nodes[..count], nodes);
+    limits::lay(&room_of_nodes[..count], nodes);
     limits::lay(&room_of_values[..count], values);
     let slots = header.slots;
     gather(header.band as u16, &room_of_bands[..slots], specials, own);
-    header
+    Ok(header)
 }
 
 // Reads a record into room for 1,023 terms and the bands of 512 slots, for the calls that have no destination of the caller's: they never refuse with 6.
@@ -64,14 +60,11 @@ pub fn read_into_room(
     nodes: &mut [u16],
     values: &mut [i16],
     bands: &mut [u16],
-) -> HeaderAnswer
+) -> Result<Header, Refusal>
     requires { Room nodes.old values.old bands.old }
     ensures { RoomRead bytes.now result nodes.old nodes.new values.old values.new bands.old bands.new }
 {
-    let header = read_header(bytes);
-    if 0 < header.refusal {
-        return header;
-    }
+    let header = read_header(bytes)?;
     // The bands are read ahead of the terms: so the loops over the terms have more registers.
     let slots = header.slots;
     let count = header.count;
@@ -84,85 +77,69 @@ pub fn read_into_room(
     );
     read_terms(bytes, count, nodes, values);
     let end = 2 * padded_length(slots);
-    if is_valid(end, &nodes[..count], &values[..count]) {
-        if right {
-            return header;
-        }
-        return refused(limits::SPECIALS_WRONG);
+    if !is_valid(end, &nodes[..count], &values[..count]) {
+        return Err(Refusal::TermsWrong);
     }
-    refused(limits::TERMS_WRONG)
+    if !right {
+        return Err(Refusal::SpecialsWrong);
+    }
+    Ok(header)
 }
 
 // The header of a record, with the refusals 7, 2 and 3.
-fn read_header(bytes: &[u8]) -> HeaderAnswer
+fn read_header(bytes: &[u8]) -> Result<Header, Refusal>
     ensures { HeaderRead bytes.now result }
 {
-    let frame = read_frame(bytes);
-    if frame.right {
-        return read_fields(bytes, frame.count, frame.specials);
-    }
-    refused(limits::NOT_A_RECORD)
+    let frame = read_frame(bytes).ok_or(Refusal::NotARecord)?;
+    read_fields(bytes, frame.count, frame.specials)
 }
 
-// Whether a record passes row 7, and its counts of terms and special slots.
-#[derive(Drop)]
+// A record's counts of terms and special slots.
+#[derive(Clone, Copy)]
 struct Frame {
-    pub right: bool,
     pub count: usize,
     pub specials: usize,
 }
 
-fn read_frame(bytes: &[u8]) -> Frame
-    ensures { FrameRead bytes.now result }
+// The frame of a record that passes row 7.
+fn read_frame(bytes: &[u8]) -> Option<Frame>
+    ensures { result ≡ frame_in bytes.now }
 {
     if bytes.len() < 7 {
-        return no_frame();
+        return None;
     }
     let version = BitPlace::start().read(BitPlace::VERSION, bytes);
-    let count = places().count.read(BitPlace::COUNT, bytes) as usize;
-    if version == 1 {
-        return close_frame(bytes, version, count, 0);
+    let count = usize::from(places().count.read(BitPlace::COUNT, bytes));
+    match version {
+        1 => close_frame(bytes, version, count, 0),
+        2 => read_second_count(bytes, count),
+        _ => None,
     }
-    if version == 2 {
-        return read_second_count(bytes, count);
-    }
-    no_frame()
 }
 
 // The frame of a version 2. One that is too short for its second count has the wrong byte count, whatever that count is.
-fn read_second_count(bytes: &[u8], count: usize) -> Frame
+fn read_second_count(bytes: &[u8], count: usize) -> Option<Frame>
     requires { SecondOpen bytes.now count }
-    ensures { FrameRead bytes.now result }
+    ensures { result ≡ frame_in bytes.now }
 {
     if bytes.len() < record_length(2, count, 0) {
-        return no_frame();
+        return None;
     }
-    let specials = after_terms(count).read(BitPlace::SPECIAL_COUNT, bytes) as usize;
+    let specials = usize::from(after_terms(count).read(BitPlace::SPECIAL_COUNT, bytes));
     close_frame(bytes, 2, count, specials)
 }
 
 // The frame of a record whose version and counts are known.
-fn close_frame(bytes: &[u8], version: u16, count: usize, specials: usize) -> Frame
+fn close_frame(bytes: &[u8], version: u16, count: usize, specials: usize) -> Option<Frame>
     requires { FrameOpen bytes.now version count specials }
-    ensures { FrameRead bytes.now result }
+    ensures { result ≡ frame_in bytes.now }
 {
-    if bytes.len() != record_length(version, count, specials) {
-        return no_frame();
-    }
-    Frame {
-        right: read_fill(bytes, version, count, specials) == 0,
-        count: count,
-        specials: specials,
-    }
-}
-
-fn no_frame() -> Frame
-    ensures { result ≡ no_frame }
-{
-    Frame {
-        right: false,
-        count: 0,
-        specials: 0,
+    if bytes.len() == record_length(version, count, specials)
+        && read_fill(bytes, version, count, specials) == 0
+    {
+        Some(Frame { count, specials })
+    } else {
+        None
     }
 }
 
@@ -176,28 +153,27 @@ fn read_fill(bytes: &[u8], version: u16, count: usize, specials: usize) -> u16
 }
 
 // The fields of a header whose frame is right, with the refusals 2 and 3.
-fn read_fields(bytes: &[u8], count: usize, specials: usize) -> HeaderAnswer
+fn read_fields(bytes: &[u8], count: usize, specials: usize) -> Result<Header, Refusal>
     requires { 7 ≤ length bytes.now }
     ensures { FieldsRead bytes.now count specials result }
 {
     let places = places();
-    let rest = places.rest.read_signed(BitPlace::REST, bytes) as i32;
+    let rest = i32::from(places.rest.read_signed(BitPlace::REST, bytes));
     if limits::is_beyond(limits::VALUE_LIMIT, rest) {
-        return refused(limits::VALUE_BEYOND);
+        return Err(Refusal::ValueBeyond);
     }
-    let band = places.band.read(BitPlace::BAND, bytes) as i32;
+    let band = i32::from(places.band.read(BitPlace::BAND, bytes));
     if limits::is_outside_band(band) {
-        return refused(limits::BAND_BEYOND);
+        return Err(Refusal::BandBeyond);
     }
-    let slots = places.length.read(BitPlace::LENGTH, bytes) as usize + 1;
-    HeaderAnswer {
-        refusal: 0,
-        slots: slots,
-        band: band,
-        rest: rest,
-        count: count,
-        specials: specials,
-    }
+    let slots = usize::from(places.length.read(BitPlace::LENGTH, bytes)) + 1;
+    Ok(Header {
+        slots,
+        band,
+        rest,
+        count,
+        specials,
+    })
 }
 
 // Reads that many terms over the fronts of `nodes` and `values`.
@@ -206,13 +182,11 @@ fn read_terms(bytes: &[u8], count: usize, nodes: &mut [u16], values: &mut [i16])
     ensures { TermsLaid bytes.now count nodes.old nodes.new values.old values.new }
 {
     let mut place = places().terms;
-    let mut i = 0;
-    while i < count {
+    for i in 0..count {
         let value_place = place.after(BitPlace::NODE);
         nodes[i] = place.read(BitPlace::NODE, bytes);
         values[i] = value_place.read_signed(BitPlace::VALUE, bytes);
         place = value_place.after(BitPlace::VALUE);
-        i += 1;
     }
 }
 
@@ -249,11 +223,10 @@ fn read_specials(
     ensures { WalkRead (specials_at specials first.at bytes.now) common result bands.old bands.new }
 {
     let mut place = first;
-    let mut least: usize = 0;
-    let mut i = 0;
-    while i < specials {
+    let mut least = 0;
+    for _ in 0..specials {
         let band_place = place.after(BitPlace::SLOT);
-        let slot = place.read(BitPlace::SLOT, bytes) as usize;
+        let slot = usize::from(place.read(BitPlace::SLOT, bytes));
         let band = band_place.read(BitPlace::OWN_BAND, bytes);
         if is_wrong(least, bands.len(), common, slot, band) {
             return false;
@@ -261,20 +234,6 @@ fn read_specials(
         bands[slot] = band;
         place = band_place.after(BitPlace::OWN_BAND);
         least = slot + 1;
-        i += 1;
     }
     true
-}
-
-fn refused(refusal: u8) -> HeaderAnswer
-    ensures { result ≡ no_header refusal }
-{
-    HeaderAnswer {
-        refusal: refusal,
-        slots: 0,
-        band: 0,
-        rest: 0,
-        count: 0,
-        specials: 0,
-    }
 }

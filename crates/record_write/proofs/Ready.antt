@@ -6,7 +6,10 @@ use native.Mathlib.Omega.{arith}
 use lib.IntN.{ℤ}
 use lib.ListN.{length, drop}
 use borrow.Author.Tests.{lt-ltb, le-ltb}
+use Rattle.std.specs.Prelude.{Ok, Err}
+use Rattle.refusals.specs.declared.Refusal.TheVariants.{OutputShort}
 use Rattle.bands.specs.declared.SpecialSlot.{SpecialSlot}
+use Rattle.bands.specs.Bands.{specials_among}
 use Rattle.bands.proofs.Bands.{few_among}
 use Rattle.bits.proofs.Packing.{length_packed}
 use Rattle.histogram.specs.declared.Term.{Term}
@@ -35,6 +38,10 @@ module _ {n common : ℕ} {nodes : List ℕ} {values : List ℤ} {bands : List �
     few_specials = omega (arith, ready.specials_counted, few_among common bands, ready.bands_of_slots, ready.few_slots);
   }
 
+  -- a record's length by how many terms and special slots there are, and by their lists
+  pub long_by_lists : {count : ℕ} → count ≡ record_length (length nodes) specials → count ≡ record_length (length (paired nodes values)) (length (specials_among common bands))
+  long_by_lists long = rw (length_paired nodes values ready.terms_paired, ← ready.specials_counted) long
+
   pub fits_just : (bytes : List ℕ) → length bytes ≡ record_length (length nodes) specials → RecordFits n common nodes values bands specials bytes
   fits_just bytes just_room = record {
     some_slot = ready.some_slot;
@@ -53,11 +60,11 @@ module _ (n band : ℕ) (rest : ℤ) (terms : List Term) (specials : List Specia
   abbrev long : ℕ
   long = record_length (length terms) (length specials)
 
-  pub too_short : length before < long → BandsWritten n band rest terms specials (record { refusal = 6; count = 0 }) before before
+  pub too_short : length before < long → BandsWritten n band rest terms specials (Err OutputShort) before before
   too_short short = record { refusal_is = rw (lt-ltb (length before) long short); count_is = refl; destination_is = refl }
 
   pub record_over : (count : ℕ) (front : List ℕ) → count ≡ long → count ≤ length before → front ≡ record_bytes n band rest terms specials
-      → BandsWritten n band rest terms specials (record { refusal = 0; count = count }) before (front ++ drop count before)
+      → BandsWritten n band rest terms specials (Ok count) before (front ++ drop count before)
   record_over count front count_is fits front_is = record {
     refusal_is = rw (le-ltb (length before) long (omega arith));
     count_is = count_is;

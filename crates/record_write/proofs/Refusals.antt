@@ -1,45 +1,39 @@
 -- What follows where a header, terms and special slots are not refused: they can be written, and what writing them answers is the answer.
 use mathlib.Core.Path.{◌≡◌, refl, sym, ap, ◌∙◌}
 use mathlib.Core.Bool.{not}
-use mathlib.Core.List.{List, [], ◌∷◌, ◌++◌}
-use Prim.Native.Nat.{ℕ, ◌≤◌, ◌<◌}
+use mathlib.Core.List.{List, [], ◌∷◌}
+use Prim.Native.Nat.{ℕ, ◌≤◌}
 use native.Mathlib.Omega.{arith}
+use Rattle.std.specs.Prelude.{Result}
 use lib.Dec.{T}
 use lib.IntN.{ℤ, nat_abs}
-use lib.ListN.{length, take, drop}
-use lib.Seq.{length-take-le, take_at}
-use lib.Signed.{non_neg}
+use lib.ListN.{length, take}
+use lib.Seq.{length-take-le}
 use borrow.Author.Tests.{ltb-false, not-false}
 use Rattle.limits.specs.Limits.{beyond, outside_band, outside_slots}
-use Rattle.limits.specs.Answers.{laid}
-use Rattle.limits.proofs.Beyond.{band_accepted, band_not_below}
-use Rattle.limits.proofs.Refusals.{first_counts, granted_nothing, passed, passed_last, SlotsWithin, slots_within}
+use Rattle.limits.proofs.Refusals.{passed, passed_last, SlotsWithin, slots_within}
+use Rattle.refusals.specs.declared.Refusal.{Refusal}
 use Rattle.bands.specs.declared.SpecialSlot.{SpecialSlot}
 use Rattle.bands.specs.Bands.{special_slots, right_specials, slot_bands, specials_from, specials_among}
-use Rattle.bands.specs.Inner.{Right}
 use Rattle.bands.proofs.Bands.{length_slot_bands, specials_of_bands}
 use Rattle.bands.proofs.Lent.{length_specials}
 use Rattle.histogram.specs.declared.Term.{Term}
 use Rattle.histogram.specs.Terms.{paired, valid, Valid}
 use Rattle.record.specs.Answers.{packing_refusal}
-use Rattle.record_write.specs.declared.WriteAnswer.{WriteAnswer}
 use Rattle.record_write.specs.Writing.{RecordWritten}
 use Rattle.record_write.specs.Inner.{Writable, BandsWritten}
 
 pub record Accepted (n : ℕ) (band rest : ℤ) (terms : List Term) (specials : List SpecialSlot) : Type 0 where
   pub not_refused : packing_refusal n band rest terms specials ≡ 0
   pub slots : SlotsWithin n
-  pub band_from_zero : T (non_neg band)
-  pub band_within : nat_abs band ≤ 40000
   pub rest_within : nat_abs rest ≤ 20000
   pub terms_valid : Valid n terms
   pub specials_right_lem : T (right_specials n (nat_abs band) specials)
 
 module _ (n : ℕ) (band rest : ℤ) (terms : List Term) (specials : List SpecialSlot) where
-  pub accepted : {refusal : ℕ} → refusal ≡ packing_refusal n band rest terms specials → refusal ≤ 0 → Accepted n band rest terms specials
-  accepted {refusal} answer zero_at_most =
-      let is_zero : refusal ≡ 0 = omega arith in
-      let none = sym answer ∙ is_zero in
+  pub accepted : 0 ≡ packing_refusal n band rest terms specials → Accepted n band rest terms specials
+  accepted not_refused =
+      let none = sym not_refused in
       let four = passed 3 (outside_slots n) _ none in
       let two = passed 1 (beyond 20000 rest) _ four.1 in
       let three = passed 2 (outside_band band) _ two.1 in
@@ -48,23 +42,13 @@ module _ (n : ℕ) (band rest : ℤ) (terms : List Term) (specials : List Specia
       record {
         not_refused = none;
         slots = slots_within n four.0;
-        band_from_zero = band_not_below band three.0;
-        band_within = band_accepted band three.0;
         rest_within = ltb-false 20000 (nat_abs rest) two.0;
         terms_valid = rw (not-false (valid n terms) eight.0) tt;
         specials_right_lem = rw (not-false (right_specials n (nat_abs band) specials) eleven) tt;
       }
 
   module _ (before : List ℕ) where
-    pub turned_away : (refusal : ℕ) → refusal ≡ packing_refusal n band rest terms specials → 0 < refusal
-        → RecordWritten n band rest terms specials (record { refusal = refusal; count = 0 }) before before
-    turned_away refusal is some = record {
-      refusal_is = sym (rw (← is) (first_counts refusal _ some));
-      count_is = sym (granted_nothing refusal _ 0 some);
-      destination_is = ap (λ (written : List ℕ). laid written before) (sym (granted_nothing refusal _ [] some));
-    }
-
-    pub as_written : {answer : WriteAnswer} {after : List ℕ} → Accepted n band rest terms specials → BandsWritten n (nat_abs band) rest terms specials answer before after
+    pub as_written : {answer : Result ℕ Refusal} {after : List ℕ} → Accepted n band rest terms specials → BandsWritten n (nat_abs band) rest terms specials answer before after
         → RecordWritten n band rest terms specials answer before after
     as_written right written = record { refusal_is = rw right.not_refused written.refusal_is; count_is = written.count_is; destination_is = written.destination_is }
 
@@ -80,28 +64,15 @@ no_bands n common [] [] same none = record { of_slots = omega arith; among = ref
 no_bands n common [] (band ∷ own) same none = absurd (omega arith)
 no_bands n common (slot ∷ specials) own same none = absurd (omega arith)
 
--- what spreading them over the front of some room asks, and what it leaves there
-pub right_for_room : (n common : ℕ) (specials own room : List ℕ) → n ≤ length room → length specials ≡ length own → T (right_specials n common (special_slots specials own))
-    → Right common specials own (take n room)
-right_for_room n common specials own room fits same right = record { same_length = same; passes = rw (length-take-le n room fits) right }
-
-module _ (n common : ℕ) (specials : List SpecialSlot) (written room : List ℕ) (fits : n ≤ length room) (is : written ≡ slot_bands (length (take n room)) common specials) where
-  spread_is : written ≡ slot_bands n common specials
-  spread_is = is ∙ ap (λ (count : ℕ). slot_bands count common specials) (length-take-le n room fits)
-
-  pub spread_long : length written ≡ n
-  spread_long = ap length spread_is ∙ length_slot_bands n common specials
-
-  pub spread_front : take n (written ++ drop n room) ≡ slot_bands n common specials
-  spread_front = take_at written (drop n room) n spread_long ∙ spread_is
-
--- and the bands that the slots go by
-pub all_bands : (n common : ℕ) (specials own bands : List ℕ) → T (right_specials n common (special_slots specials own)) → bands ≡ slot_bands n common (special_slots specials own)
-    → BandsFor n common specials own bands
-all_bands n common specials own bands right is = record {
-  of_slots = omega (arith, ap length is, length_slot_bands n common (special_slots specials own));
-  among = ap (specials_among common) is ∙ specials_of_bands common n (special_slots specials own) right;
-}
+-- and the bands that the slots go by, spread over the front of some room
+pub all_bands : (n common : ℕ) (specials own room bands : List ℕ) → n ≤ length room → T (right_specials n common (special_slots specials own))
+    → bands ≡ slot_bands (length (take n room)) common (special_slots specials own) → BandsFor n common specials own bands
+all_bands n common specials own room bands fits right is =
+    let spread : bands ≡ slot_bands n common (special_slots specials own) = rw (← length-take-le n room fits) is in
+    record {
+      of_slots = omega (arith, ap length spread, length_slot_bands n common (special_slots specials own));
+      among = ap (specials_among common) spread ∙ specials_of_bands common n (special_slots specials own) right;
+    }
 
 pub writable : {n : ℕ} {band rest : ℤ} {nodes : List ℕ} {values : List ℤ} {specials own bands : List ℕ} → length nodes ≡ length values → length specials ≡ length own
     → Accepted n band rest (paired nodes values) (special_slots specials own) → BandsFor n (nat_abs band) specials own bands → Writable n (nat_abs band) nodes values bands (length specials)

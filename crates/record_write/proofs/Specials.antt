@@ -15,7 +15,7 @@ use Rattle.record.specs.Layout.{layout_width, entries_bits}
 use Rattle.record.specs.Record.{special_layout, special_count_width, version_for, specials_bits, terms_end}
 use Rattle.record.proofs.Ends.{end_of_second}
 use Rattle.record.proofs.Specials.{version_of_some}
-use Rattle.record_write.specs.Inner.{SpecialsFit, WalkFits, EntryPut}
+use Rattle.record_write.specs.Inner.{SpecialsFit, EntryPut}
 use Rattle.record_write.proofs.Entries.{first_written, none_to_write}
 
 -- the special slots before `slot` are written: the others, written from `place` on, give what all of them give from `first` on
@@ -28,9 +28,6 @@ pub record WrittenUpTo (first common : ℕ) (bands before now : List ℕ) (place
       ≡ replaced_at first (entries_bits special_layout (specials_among common bands)) (bits_of before)
 
 module _ (first common : ℕ) (bands before : List ℕ) where
-  pub none_written : WalkFits first common bands before → WrittenUpTo first common bands before before first 0
-  none_written fits = record { inside = omega arith; near = omega arith; room = fits.room; same_length = refl; others_to_come = refl }
-
   module _ {now : List ℕ} {place slot : ℕ} (so_far : WrittenUpTo first common bands before now place slot) (more : slot < length bands) where
     -- the special slot here, and those behind it
     abbrev here : SpecialSlot
@@ -71,11 +68,6 @@ module _ (first common : ℕ) (bands before : List ℕ) where
       sym (none_to_write special_layout place (bits_of now)) ∙ rw (none_left common bands slot done) at so_far.others_to_come
 
 -- ---- with their count
-
-pub none_to_write_here : (place : ℕ) (specials : List SpecialSlot) (before : List ℕ) → length specials ≡ 0 → before ≡ replaced_at place (specials_bits specials) before
-unfolding entries_bits
-none_to_write_here place [] before none = sym (none_to_write special_layout place before)
-none_to_write_here place (special ∷ specials) before none = absurd (omega arith)
 
 -- their count, and then they behind it
 pub count_and_specials : (place : ℕ) (specials : List SpecialSlot) (before counted after : List ℕ) → (length specials ≡ 0 → ⊥) → place ≤ length before

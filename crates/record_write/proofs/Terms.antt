@@ -1,5 +1,5 @@
 -- The loop that writes terms one after another: `Entries` for terms whose nodes and values are lent as two lists.
-use mathlib.Core.Path.{◌≡◌, refl, sym, ap, ◌∙◌}
+use mathlib.Core.Path.{◌≡◌, sym, ap, ◌∙◌}
 use mathlib.Core.List.{List, []}
 use Prim.Native.Nat.{ℕ, suc, ◌+◌, ◌*◌, ◌≤◌, ◌<◌}
 use native.Mathlib.Numerals.{add-one}
@@ -23,14 +23,6 @@ pub record WrittenSoFar (nodes : List ℕ) (values : List ℤ) (before now : Lis
   pub others_to_come : replaced_at place (terms_bits (onwards nodes values i)) (bits_of now) ≡ replaced_at (layout_width header_layout) (terms_bits (paired nodes values)) (bits_of before)
 
 module _ (nodes : List ℕ) (values : List ℤ) (before : List ℕ) where
-  pub none_written : (place : ℕ) → place ≡ layout_width header_layout → WrittenSoFar nodes values before before place 0
-  none_written place at_first = record {
-    inside = omega arith;
-    place_is = omega arith;
-    same_length = refl;
-    others_to_come = ap (λ (p : ℕ). replaced_at p (terms_bits (paired nodes values)) (bits_of before)) at_first;
-  }
-
   pub one_more_written : {now after : List ℕ} {place next i : ℕ} → length nodes ≡ length values → terms_end (length nodes) ≤ 8 * length before
       → WrittenSoFar nodes values before now place i → i < length nodes → length after ≡ length now
       → EntryPut term_layout (term_at nodes values i) place next now after → WrittenSoFar nodes values before after next (i + 1)

@@ -1,5 +1,5 @@
 -- What inner functions ask and promise. A reader of the promises need not open this file.
-use Rattle.std.specs.Prelude.{◌≡◌, List, [], ◌++◌, ℕ, ◌+◌, ◌*◌, ◌-◌, ◌^◌, ◌≤◌, ◌<◌, ltb, ℤ, length, get_or, take, replicate}
+use Rattle.std.specs.Prelude.{◌≡◌, List, [], ◌++◌, ℕ, ◌+◌, ◌*◌, ◌-◌, ◌^◌, ◌≤◌, ◌<◌, ltb, ℤ, length, get_or, take, replicate, Result}
 use Rattle.limits.specs.Answers.{◌when◌, granted, laid}
 use Rattle.bands.specs.declared.SpecialSlot.{SpecialSlot}
 use Rattle.bands.specs.Bands.{specials_among}
@@ -9,7 +9,8 @@ use Rattle.histogram.specs.Terms.{paired, Valid}
 use Rattle.record.specs.Layout.{Field, layout_width, layout_bits}
 use Rattle.record.specs.Record.{special_layout, record_length, record_bytes, terms_end}
 use Rattle.record.specs.Inner.{Counted}
-use Rattle.record_write.specs.declared.WriteAnswer.{WriteAnswer}
+use Rattle.refusals.specs.declared.Refusal.{Refusal}
+use Rattle.refusals.specs.Answers.{refused_with, answered}
 
 -- a length, terms that are valid for it, and the bands that the first slots go by, among them so many that are not the common one
 pub record Writable (n common : ℕ) (nodes : List ℕ) (values : List ℤ) (bands : List ℕ) (specials : ℕ) : Type 0 where
@@ -21,10 +22,10 @@ pub record Writable (n common : ℕ) (nodes : List ℕ) (values : List ℤ) (ban
   pub specials_counted : specials ≡ length (specials_among common bands)
 
 -- the record of such a header, terms and special slots: 6 alone refuses it
-pub record BandsWritten (n band : ℕ) (rest : ℤ) (terms : List Term) (specials : List SpecialSlot) (answer : WriteAnswer) (before after : List ℕ) : Type 0 where
-  pub refusal_is : answer.refusal ≡ 6 when ltb (length before) (record_length (length terms) (length specials))
-  pub count_is : answer.count ≡ granted answer.refusal (record_length (length terms) (length specials)) 0
-  pub destination_is : after ≡ laid (granted answer.refusal (record_bytes n band rest terms specials) []) before
+pub record BandsWritten (n band : ℕ) (rest : ℤ) (terms : List Term) (specials : List SpecialSlot) (answer : Result ℕ Refusal) (before after : List ℕ) : Type 0 where
+  pub refusal_is : refused_with answer ≡ 6 when ltb (length before) (record_length (length terms) (length specials))
+  pub count_is : answered 0 answer ≡ granted (refused_with answer) (record_length (length terms) (length specials)) 0
+  pub destination_is : after ≡ laid (granted (refused_with answer) (record_bytes n band rest terms specials) []) before
 
 -- numbers of a header that fit their fields, and bytes that have room for it; its band and its rest value fit by their types
 pub record HeaderFits (version n count : ℕ) (bytes : List ℕ) : Type 0 where

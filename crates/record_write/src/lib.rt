@@ -1,5 +1,7 @@
 // Writing a record: its header, its terms, its special slots and its fill.
 // Terms come as two slices of equal length, their nodes and their values; so do special slots, their slots in `specials` and their bands in `own`.
+// Document 01 has slices of structs in thin functions around such code.
+// Its arrays have the greatest size that can be needed: the panel has no heap.
 #![tactic(auto)]
 
 ghost use Rattle.std.specs.Prelude.{◌≡◌, ◌<◌, length};
@@ -10,21 +12,16 @@ ghost use Rattle.record.specs.Layout.{layout_width, entries_bits};
 ghost use Rattle.record.specs.Record.{header_layout, term_layout, special_layout, header_bits, terms_bits, version_for, specials_bits, terms_end, fields_end, record_bytes};
 ghost use Rattle.record.specs.Answers.{packing_refusal};
 ghost use Rattle.record_write.specs.Writing.{RecordWritten};
+ghost use Rattle.refusals.specs.Answers.{refused_with};
 ghost use Rattle.record_write.specs.Inner.{Writable, BandsWritten, RecordFits, HeaderFits, TermsFit, SpecialsFit, WalkFits, RoomFor, EntryPut, FillFits, filled};
 
 use bands::{is_right, spread};
 use bits::BitPlace;
 use histogram::terms::{is_valid, padded_length};
 use record::{after_fields, after_terms, first_special, places, record_length, version_for};
+use refusals::Refusal;
 
-// The refusal, or 0 and how many bytes were written.
-#[derive(Clone, Copy)]
-pub struct WriteAnswer {
-    pub refusal: u8,
-    pub count: usize,
-}
-
-// Writes the record of a header, terms and special slots over the front of `destination`.
+// Writes the record of a header, terms and special slots over the front of `destination`; the answer is how many bytes that took.
 pub fn write_record(
     slots: usize,
     band: i32,
@@ -34,40 +31,27 @@ pub fn write_record(
     specials: &[u16],
     own: &[u16],
     destination: &mut [u8],
-) -> WriteAnswer
+) -> Result<usize, Refusal>
     requires { (length nodes.now ≡ length values.now) × (length specials.now ≡ length own.now) }
     ensures { RecordWritten slots band rest (paired nodes.now values.now) (special_slots specials.now own.now) result destination.old destination.new }
 {
-    let refusal = refuse(slots, band, rest, nodes, values, specials, own);
-    if 0 < refusal {
-        return WriteAnswer {
-            refusal: refusal,
-            count: 0,
-        };
-    }
+    refuse(slots, band, rest, nodes, values, specials, own)?;
     let common = band as u16;
-    if specials.len() == 0 {
+    let rest = rest as i16;
+    if specials.is_empty() {
         // No slot has a band of its own, so no bands are laid out: `own`, which is empty, stands for them.
-        return write_for_bands(
-            slots,
-            common,
-            rest as i16,
-            nodes,
-            values,
-            own,
-            0,
-            destination,
-        );
+        return write_for_bands(slots, common, rest, nodes, values, own, 0, destination);
     }
     let mut bands = [0u16; 512];
-    spread(common, specials, own, &mut bands[..slots]);
+    let bands = &mut bands[..slots];
+    spread(common, specials, own, bands);
     write_for_bands(
         slots,
         common,
-        rest as i16,
+        rest,
         nodes,
         values,
-        &bands[..slots],
+        bands,
         specials.len(),
         destination,
     )
@@ -83,16 +67,13 @@ pub fn write_for_bands(
     bands: &[u16],
     specials: usize,
     destination: &mut [u8],
-) -> WriteAnswer
+) -> Result<usize, Refusal>
     requires { Writable slots band nodes.now values.now bands.now specials }
     ensures { BandsWritten slots band rest (paired nodes.now values.now) (specials_among band bands.now) result destination.old destination.new }
 {
     let count = record_length(version_for(specials), nodes.len(), specials);
     if destination.len() < count {
-        return WriteAnswer {
-            refusal: limits::OUTPUT_SHORT,
-            count: 0,
-        };
+        return Err(Refusal::OutputShort);
     }
     put_record(
         slots,
@@ -104,13 +85,10 @@ pub fn write_for_bands(
         specials,
         &mut destination[..count],
     );
-    WriteAnswer {
-        refusal: 0,
-        count: count,
-    }
+    Ok(count)
 }
 
-// The number that refuses a header, terms and special slots; 0 for none.
+// Refuses a header, terms and special slots that no record can hold.
 fn refuse(
     slots: usize,
     band: i32,
@@ -119,26 +97,26 @@ fn refuse(
     values: &[i16],
     specials: &[u16],
     own: &[u16],
-) -> u8
+) -> Result<(), Refusal>
     requires { (length nodes.now ≡ length values.now) × (length specials.now ≡ length own.now) }
-    ensures { result ≡ packing_refusal slots band rest (paired nodes.now values.now) (special_slots specials.now own.now) }
+    ensures { refused_with result ≡ packing_refusal slots band rest (paired nodes.now values.now) (special_slots specials.now own.now) }
 {
     if limits::is_outside_slots(slots) {
-        return limits::SLOTS_BEYOND;
+        return Err(Refusal::SlotsBeyond);
     }
     if limits::is_beyond(limits::VALUE_LIMIT, rest) {
-        return limits::VALUE_BEYOND;
+        return Err(Refusal::ValueBeyond);
     }
     if limits::is_outside_band(band) {
-        return limits::BAND_BEYOND;
+        return Err(Refusal::BandBeyond);
     }
-    if is_valid(2 * padded_length(slots), nodes, values) {
-        if is_right(slots, band as u16, specials, own) {
-            return 0;
-        }
-        return limits::SPECIALS_WRONG;
+    if !is_valid(2 * padded_length(slots), nodes, values) {
+        return Err(Refusal::TermsWrong);
     }
-    limits::TERMS_WRONG
+    if !is_right(slots, band as u16, specials, own) {
+        return Err(Refusal::SpecialsWrong);
+    }
+    Ok(())
 }
 
 // Writes the record of a header, terms and special slots over bytes that are just as long.
@@ -175,16 +153,14 @@ fn put_header(version: u16, slots: usize, band: u16, rest: i16, count: usize, by
     places.count.write(BitPlace::COUNT, count as u16, bytes);
 }
 
-// Writes terms behind a header, one after another.
+// Writes terms behind a header, one after another. Values are read by the node's index: a `zip` of both slices hands pointers back, which firmware/audit refuses.
 fn put_terms(nodes: &[u16], values: &[i16], bytes: &mut [u8])
     requires { TermsFit nodes.now values.now bytes.old }
     ensures { bits_of bytes.new ≡ replaced_at (layout_width header_layout) (terms_bits (paired nodes.now values.now)) (bits_of bytes.old) }
 {
     let mut place = places().terms;
-    let mut i = 0;
-    while i < nodes.len() {
-        place = put_term(place, nodes[i], values[i], bytes);
-        i += 1;
+    for (i, &node) in nodes.iter().enumerate() {
+        place = put_term(place, node, values[i], bytes);
     }
 }
 
@@ -217,17 +193,15 @@ fn put_own_bands(first: BitPlace, common: u16, bands: &[u16], bytes: &mut [u8])
     ensures { bits_of bytes.new ≡ replaced_at first.at (entries_bits special_layout (specials_among common bands.now)) (bits_of bytes.old) }
 {
     let mut place = first;
-    let mut slot = 0;
-    while slot < bands.len() {
-        let band = bands[slot];
+    for (slot, &band) in bands.iter().enumerate() {
         if band != common {
             place = put_special(place, slot as u16, band, bytes);
         }
-        slot += 1;
     }
 }
 
 // Writes one special slot at a place; the answer is the place after it.
+// `put_term` and this stay two: one function for both would take two widths, the value in two's complement and, for its contract, a layout.
 fn put_special(place: BitPlace, slot: u16, band: u16, bytes: &mut [u8]) -> BitPlace
     requires { (slot < 512) × RoomFor special_layout place.at bytes.old }
     ensures { EntryPut special_layout (record { slot = slot; band = band }) place.at result.at bytes.old bytes.new }

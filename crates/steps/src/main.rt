@@ -26,11 +26,8 @@ fn lay_hundreds(flows: &mut [u16])
     requires { length flows.old ≡ 401 }
     ensures { Hundreds flows.new }
 {
-    let mut step: usize = 0;
-    while step < 401 {
-        let flow = step / 100 * 250;
-        flows[step] = flow as u16;
-        step += 1;
+    for (step, flow) in flows.iter_mut().enumerate() {
+        *flow = (step / 100 * 250) as u16;
     }
 }
 
@@ -39,16 +36,14 @@ fn print_runs(out: &mut impl Write, flows: &[u16]) -> io::Result<()>
     requires { LentTable flows.now }
 {
     let mut first = 0;
-    let mut last = 0;
-    while last < 1000 {
+    for last in 0..1000 {
         let next = last + 1;
         if search_step(flows, next) != search_step(flows, last) {
             print_run(out, flows, first, last)?;
             first = next;
         }
-        last = next;
     }
-    print_run(out, flows, first, last)
+    print_run(out, flows, first, 1000)
 }
 
 fn print_run(out: &mut impl Write, flows: &[u16], first: u32, last: u32) -> io::Result<()>

@@ -4,14 +4,13 @@ use mathlib.Core.List.{List, [], ◌∷◌}
 use Prim.Native.Nat.{ℕ, zero, suc, ◌+◌, ◌^◌, ◌≤◌, ◌<◌}
 use native.Mathlib.Omega.{arith}
 use lib.Dec.{T}
-use lib.IntN.{ℤ, pos, nat_abs}
 use lib.ListN.{length, get_or, take, drop}
 use lib.Seq.{get_or-drop}
 use mir.Facts.{yes_and}
 use Rattle.windows.specs.Windows.{Window, covers, Sorted, meet}
 use Rattle.windows.proofs.Sets.{covers_meet, sorted_meet, sorted_join, length_meet, length_join}
 use Rattle.subtree.specs.Answer.{Answer, every_value, combined_by, combined, answer}
-use Rattle.subtree.specs.Stretch.{Within, Usable}
+use Rattle.subtree.specs.Stretch.{Usable}
 use Rattle.subtree.proofs.Slots.{every_value_usable}
 
 -- where what is in both sets is listed as empty, no value is in both
@@ -41,13 +40,6 @@ module _ {A : Type 0} (True : A → Type 0) (otherwise : A) where
 
   true_of_back : (count : ℕ) (list : List A) (place : ℕ) → True (get_or list (count + place) otherwise) → True (get_or (drop count list) place otherwise)
   true_of_back count list place there = subst True (sym (get_or-drop count list place otherwise)) there
-
-module _ {setpoints : List ℤ} (within : Within setpoints) (count : ℕ) where
-  pub within_take : Within (take count setpoints)
-  within_take = record { each = λ slot. true_of_front (λ (z : ℤ). nat_abs z ≤ 20000) (pos 0) (omega arith) count setpoints slot (within.each slot) }
-
-  pub within_drop : Within (drop count setpoints)
-  within_drop = record { each = λ slot. true_of_back (λ (z : ℤ). nat_abs z ≤ 20000) (pos 0) count setpoints slot (within.each (count + slot)) }
 
 module _ {leaves : List Window} (usable : Usable leaves) (count : ℕ) where
   pub usable_take : Usable (take count leaves)

@@ -45,8 +45,8 @@ above_both numbers left right numbers_are = by_meet (meet left.windows right.win
     by_meet (window ∷ windows) = rw sum
 
 -- two lists of windows that were joined up to the first two that meet
-module _ (before joined : List ℤ) (numbers left lefts right rights : ℕ) (placed : Placed (length before) left lefts right rights)
-    (next-left left-rest next_right right-rest : ℕ) (of-join : Joined left lefts right rights before joined next-left left-rest next_right right-rest) where
+module _ {before joined : List ℤ} (numbers : ℕ) {left lefts right rights : ℕ} (placed : Placed (length before) left lefts right rights)
+    {next-left left-rest next_right right-rest : ℕ} (of-join : Joined left lefts right rights before joined next-left left-rest next_right right-rest) where
   abbrev left_windows : List Window
   left_windows = windows_at (at before) left lefts
 
@@ -63,8 +63,8 @@ module _ (before joined : List ℤ) (numbers left lefts right rights : ℕ) (pla
   sum = omega arith
 
   -- no two meet: the join is the node's set
-  pub combined_apart : (after : List ℤ) → left-rest ≡ 0 → Headed (numbers + 1) (lefts + rights) joined after → ListsCombined numbers left lefts right rights before after
-  combined_apart after none of_header =
+  pub combined_apart : {after : List ℤ} → left-rest ≡ 0 → Headed (numbers + 1) (lefts + rights) joined after → ListsCombined numbers left lefts right rights before after
+  combined_apart {after} none of_header =
       let empty : meet left_windows right_windows ≡ [] = of-join.same_meet ∙ rw (windows_none (at before) next-left left-rest (omega arith)) (meet_none_left _) in
       record {
         answer_is =
@@ -75,7 +75,7 @@ module _ (before joined : List ℤ) (numbers left lefts right rights : ℕ) (pla
       }
 
   -- what is left of the lists meets: what is in both of them is the node's set
-  module _ (met : List ℤ) (count : ℕ)
+  module _ {met : List ℤ} {count : ℕ}
       (of-meet : Written (meet (windows_at (at joined) next-left left-rest) (windows_at (at joined) next_right right-rest)) (2 + 2 * (left-rest + right-rest)) joined met count) where
     pub count_few : count ≤ lefts + rights
     count_few =
@@ -88,8 +88,8 @@ module _ (before joined : List ℤ) (numbers left lefts right rights : ℕ) (pla
           of-join.rest_fewer,
         )
 
-    pub combined_meeting : (after : List ℤ) → 0 < left-rest → Headed numbers count met after → ListsCombined numbers left lefts right rights before after
-    combined_meeting after some of_header =
+    pub combined_meeting : {after : List ℤ} → 0 < left-rest → Headed numbers count met after → ListsCombined numbers left lefts right rights before after
+    combined_meeting {after} some of_header =
         let rest_placed = of-join.rest_placed in
         let later = of-join.rest_later in
         let left_same : windows_at (at joined) next-left left-rest ≡ windows_at (at before) next-left left-rest =
@@ -107,19 +107,19 @@ module _ (before joined : List ℤ) (numbers left lefts right rights : ℕ) (pla
         }
 
 -- the answers of two children, by what stands at their places
-module _ (before after : List ℤ) (left right : ℕ) (combinable : Combinable before left right) (numbers : ℕ) (numbers_are : numbers ≡ at before left + at before right) where
-  pub combined_lists : (lefts rights : ℕ) → lefts ≡ at before (left + 1) → rights ≡ at before (right + 1) → ListsCombined numbers (left + 2) lefts (right + 2) rights before after → CombinedAt before after left right
-  combined_lists lefts rights lefts-are rights-are of-lists =
+module _ {before after : List ℤ} {left right : ℕ} (combinable : Combinable before left right) {numbers : ℕ} (numbers_are : numbers ≡ at before left + at before right) where
+  pub combined_lists : {lefts rights : ℕ} → lefts ≡ at before (left + 1) → rights ≡ at before (right + 1) → ListsCombined numbers (left + 2) lefts (right + 2) rights before after → CombinedAt before after left right
+  combined_lists lefts-are rights-are of-lists =
       record {
         answer_is = (rw (lefts-are, rights-are) at of-lists.answer_is) ∙ above_both numbers (answer_at (at before) left) (answer_at (at before) right) numbers_are;
         others_same = λ place far. of-lists.others_same place (omega arith);
       }
 
-  pub combined_singles : (left-low left-high right-low right-high : ℕ) → at before (left + 1) + at before (right + 1) ≡ 2
+  pub combined_singles : {left-low left-high right-low right-high : ℕ} → at before (left + 1) + at before (right + 1) ≡ 2
       → left-low ≡ at before (left + 2) → left-high ≡ at before (left + 2 + 1) → right-low ≡ at before (right + 2) → right-high ≡ at before (right + 2 + 1)
       → SinglesCombined numbers left-low left-high right-low right-high before after → CombinedAt before after left right
   unfolding windows_at
-  combined_singles left-low left-high right-low right-high two left-low-is left-high-is right-low-is right-high-is of-singles =
+  combined_singles {left-low} {left-high} {right-low} {right-high} two left-low-is left-high-is right-low-is right-high-is of-singles =
       let left_one : at before (left + 1) ≡ 1 = omega arith in
       let right_one : at before (right + 1) ≡ 1 = omega arith in
       let left_is : one_window left-low left-high ≡ windows_at (at before) (left + 2) (at before (left + 1)) = rw (left_one, left-low-is, left-high-is) in

@@ -22,7 +22,7 @@ pub record Front (scratch : List ℤ) : Type 0 where
   pub few : 2 + 2 * at scratch 1 ≤ 65536
   pub sorted : Sorted 0 (windows_at (at scratch) 2 (at scratch 1))
 
-module _ (margin height : ℕ) (setpoints : List ℤ) (bands : List ℕ) (before scratch : List ℤ) (solvable : Solvable margin height setpoints bands before)
+module _ {margin height : ℕ} {setpoints : List ℤ} {bands : List ℕ} {before : List ℤ} (scratch : List ℤ) (solvable : Solvable margin height setpoints bands before)
     (same_length : length scratch ≡ length before) (solved : Solved height (windows_for margin bands setpoints) (at scratch)) where
   abbrev leaves : List Window
   leaves = windows_for margin bands setpoints
@@ -38,7 +38,7 @@ module _ (margin height : ℕ) (setpoints : List ℤ) (bands : List ℕ) (before
     sorted = subst (λ (one : Answer). Sorted 0 one.windows) (sym top) (answer_sorted (windows_usable (narrowed margin bands) solvable.setpoints_within) height);
   }
 
-  module _ (value count : ℕ) where
+  module _ {value count : ℕ} where
     pub counted_inside : count ≡ at scratch 0 → covers (windows_at (at scratch) 2 (at scratch 1)) value ≡ true → Counted height value leaves scratch count
     counted_inside count_is inside = record { count_is = subst (λ (one : Answer). count ≡ needed one value) top (rw inside (omega arith)); solved = solved }
 

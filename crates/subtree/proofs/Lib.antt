@@ -2,7 +2,6 @@ pub mod Places
 pub mod Lent
 pub mod Combining
 pub mod LeafAnswers
-pub mod Lifting
 pub mod Slots
 pub mod Answers
 pub mod Rows

@@ -12,12 +12,12 @@ use Rattle.histogram.proofs.Order.{below_or_not}
 use Rattle.windows.specs.Windows.{Window, meet, join}
 use Rattle.windows.specs.Scratch.{at}
 use Rattle.subtree.specs.Answer.{Answer, slot_window, combined, answer}
-use Rattle.subtree.specs.Stretch.{places, answer_at, Solved, Planned, above}
+use Rattle.subtree.specs.Stretch.{places, answer_at, Solved, Halves, Planned, above}
 use Rattle.subtree.specs.Pair.{one_window, single, SlotEnds, SingleAt, DoubleWritten, SinglesCombined, LeavesWritten, PairSolved}
 use Rattle.subtree.proofs.Places.{planned}
 use Rattle.subtree.proofs.Slots.{windows_for, window_of, two_slots, first_two, last_two}
 use Rattle.subtree.proofs.LeafAnswers.{leaf_is}
-use Rattle.subtree.proofs.Solving.{count_of, answer_same, answer_shifted}
+use Rattle.subtree.proofs.Solving.{ChildrenSolved, count_of, answer_same, answer_shifted}
 
 neither : (test : Bool) → cond {A = List Window} test [] [] ≡ []
 neither true = refl
@@ -136,3 +136,8 @@ four_places = refl
 pub four_planned : Planned 2 2 10 24 38
 unfolding places
 four_planned = planned 2 2 14 (omega arith) (omega arith) refl refl
+
+-- the children of a node of four leaves, once both pairs are written
+pub pairs_solved : {height : ℕ} {leaves : List Window} {before scratch : List ℤ} → height ≡ 2 → Halves 1 10 24 leaves scratch → length scratch ≡ length before
+    → ChildrenSolved height 10 24 leaves before scratch
+pairs_solved two both same_length = record { half = 2; end = 38; planned = rw two four_planned; both = rw two both; same_length = same_length }

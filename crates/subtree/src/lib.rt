@@ -14,7 +14,6 @@ ghost use Rattle.subtree.specs.Answer.{slot_windows};
 ghost use Rattle.subtree.specs.Stretch.{places, Solvable, Solved, Planned, Counted};
 
 use leaves::{write_few, write_pair, write_pairs};
-use limits::lesser;
 use node::combine;
 use windows::{is_covered, load};
 
@@ -52,9 +51,9 @@ pub fn plan(height: u32) -> ChildPlaces
     let own = 4 * half + 2;
     let middle = own + child;
     ChildPlaces {
-        half: half,
-        own: own,
-        middle: middle,
+        half,
+        own,
+        middle,
         end: middle + child,
     }
 }
@@ -101,16 +100,12 @@ fn solve_part(
         write_few(setpoints, bands, slots, margin, scratch);
     } else if 1 < height {
         // Where the answers of the children stand: two pairs have the places that `write_pairs` gives them.
-        let mut left = 10;
-        let mut right = 24;
-        if 2 < height {
+        let (left, right) = if 2 < height {
             let parts = plan(height);
-            left = parts.own;
-            right = parts.middle;
             let own = parts.own as usize;
             let middle = parts.middle as usize;
             let end = parts.end as usize;
-            let lefts = lesser(parts.half, slots);
+            let lefts = parts.half.min(slots);
             let cut = lefts as usize;
             let all = slots as usize;
             solve_part(
@@ -129,9 +124,11 @@ fn solve_part(
                 &mut scratch[middle..end],
                 margin,
             );
+            (parts.own, parts.middle)
         } else {
             write_pairs(setpoints, bands, slots, margin, scratch);
-        }
+            (10, 24)
+        };
         combine(scratch, left, right);
     } else {
         write_pair(

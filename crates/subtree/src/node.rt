@@ -5,8 +5,7 @@ ghost use Rattle.windows.specs.Scratch.{at, Joinable};
 ghost use Rattle.subtree.specs.Stretch.{Combinable, CombinedAt, ListsCombined, Headed};
 ghost use Rattle.subtree.specs.Pair.{SingleAt, DoubleWritten, SinglesCombined};
 
-use limits::{greater, lesser};
-use windows::{load, store, write_join, write_meet};
+use windows::{Rest, load, store, write_join, write_meet};
 
 // Combines the answers that stand at `left` and `right`.
 pub fn combine(scratch: &mut [i16], left: u32, right: u32)
@@ -21,20 +20,26 @@ pub fn combine(scratch: &mut [i16], left: u32, right: u32)
         let right_ends = ends_at(scratch, right + 2);
         combine_singles(scratch, numbers, left_ends, right_ends);
     } else {
-        combine_lists(scratch, numbers, left + 2, lefts, right + 2, rights);
+        let sets = Rest {
+            left: left + 2,
+            lefts,
+            right: right + 2,
+            rights,
+        };
+        combine_lists(scratch, numbers, sets);
     }
 }
 
 // Combines two lists of windows, where the children's numbers make up `numbers`.
-fn combine_lists(scratch: &mut [i16], numbers: u32, left: u32, lefts: u32, right: u32, rights: u32)
-    requires { Joinable scratch.old left lefts right rights × (numbers < 65535) }
-    ensures { ListsCombined numbers left lefts right rights scratch.old scratch.new }
+fn combine_lists(scratch: &mut [i16], numbers: u32, sets: Rest)
+    requires { Joinable scratch.old sets.left sets.lefts sets.right sets.rights × (numbers < 65535) }
+    ensures { ListsCombined numbers sets.left sets.lefts sets.right sets.rights scratch.old scratch.new }
 {
-    let rest = write_join(scratch, left, lefts, right, rights);
+    let rest = write_join(scratch, sets);
     if rest.lefts == 0 {
-        write_header(scratch, numbers + 1, lefts + rights);
+        write_header(scratch, numbers + 1, sets.lefts + sets.rights);
     } else {
-        let count = write_meet(scratch, rest.left, rest.lefts, rest.right, rest.rights);
+        let count = write_meet(scratch, rest);
         write_header(scratch, numbers, count);
     }
 }
@@ -60,11 +65,9 @@ fn ends_at(scratch: &[i16], place: u32) -> Ends
     requires { (place + 1 < length scratch.now) × (place < 65536) }
     ensures { (result.low ≡ at scratch.now place) × (result.high ≡ at scratch.now (place + 1)) × (result.low ≤ 65535) × (result.high ≤ 65535) }
 {
-    let low = load(scratch, place);
-    let high = load(scratch, place + 1);
     Ends {
-        low: low,
-        high: high,
+        low: load(scratch, place),
+        high: load(scratch, place + 1),
     }
 }
 
@@ -73,18 +76,10 @@ pub fn combine_singles(scratch: &mut [i16], numbers: u32, left: Ends, right: End
     requires { (6 ≤ length scratch.old) × (numbers < 65535) × (left.low ≤ 65535) × (left.high ≤ 65535) × (right.low ≤ 65535) × (right.high ≤ 65535) }
     ensures { SinglesCombined numbers left.low left.high right.low right.high scratch.old scratch.new }
 {
-    let low = greater(left.low, right.low);
-    let high = lesser(left.high, right.high);
+    let low = left.low.max(right.low);
+    let high = left.high.min(right.high);
     if low <= high {
-        write_single(
-            scratch,
-            0,
-            numbers,
-            Ends {
-                low: low,
-                high: high,
-            },
-        );
+        write_single(scratch, 0, numbers, Ends { low, high });
     } else if right.low < left.low {
         write_double(scratch, numbers + 1, right, left);
     } else {

@@ -8,6 +8,7 @@ use lib.Dec.{T, ltb, leb}
 use lib.IntN.{ℤ, pos, nat_abs}
 use lib.ListN.{length, take}
 use lib.Pow.{pow_pos}
+use Rattle.std.proofs.Common.{Result}
 use lib.Seq.{take_all, length-take-le}
 use borrow.Author.Tests.{ltb-true, ltb-false}
 use Rattle.limits.specs.Answers.{◌when◌, ◌then◌, granted, laid}
@@ -26,14 +27,12 @@ use Rattle.histogram.proofs.Ascent.{valid_few}
 use Rattle.histogram.proofs.Powers.{padded_bound}
 use Rattle.record.specs.Record.{record_length, record_bytes}
 use Rattle.record.specs.Answers.{packing_refusal}
-use Rattle.record_write.specs.declared.WriteAnswer.{WriteAnswer}
 use Rattle.record_write.specs.Writing.{RecordWritten}
 use Rattle.claims.specs.First.{first_synopsis}
 use Rattle.build.specs.Building.{build_refusal, Built}
-use Rattle.build.specs.declared.BuildAnswer.{BuildAnswer}
-use Rattle.synopsis.specs.declared.parts.Parts.{Parts}
-use Rattle.synopsis.specs.declared.parts.SpecialParts.{SpecialParts}
-use Rattle.synopsis.specs.Inner.{terms_of, special_slots_of, PairsApart, PartsOf, SpecialPartsOf}
+use Rattle.build.specs.declared.BuiltSynopsis.{BuiltSynopsis}
+use Rattle.refusals.specs.declared.Refusal.{Refusal}
+use Rattle.refusals.specs.Answers.{refused_with}
 
 -- an answer that is refused in either case
 moved : (refusal first first' later later' : ℕ) → refusal ≡ (first then later) → first ≡ first' → 0 < first' → refusal ≡ (first' then later')
@@ -45,10 +44,10 @@ still_wrong refusal first later is wrong = omega (arith, is ∙ first_counts fir
 regranted : {A : Type 0} (refusal : ℕ) (result other nothing : A) → 0 < refusal → granted refusal result nothing ≡ granted refusal other nothing
 regranted refusal result other nothing wrong = granted_nothing refusal result nothing wrong ∙ sym (granted_nothing refusal other nothing wrong)
 
--- what holds of the parts of a list holds of the list, if it does so of more than `few`
-pub of_all : {A B D : Type 0} (few : ℕ) {count : ℕ} {firsts : List A} {seconds : List B} {together : List D} (Says : List D → Type 0) (all : List D) → PairsApart (suc few) all count firsts seconds together
-    → (few < length (take (suc few) all) → few < length all → Says (take (suc few) all) → Says all) → Says together → Says all
-of_all {D = D} few {together = together} Says all apart where-many said = by_many (ltb few (length all)) refl (subst Says apart.together_are said)
+-- what holds of the first of a list, one more than `few`, holds of the list, if it does so where it is longer
+of_all : {D : Type 0} (few : ℕ) {first : List D} (Says : List D → Type 0) (all : List D) → first ≡ take (suc few) all
+    → (few < length (take (suc few) all) → few < length all → Says (take (suc few) all) → Says all) → Says first → Says all
+of_all few Says all first_is where-many said = by_many (ltb few (length all)) refl (subst Says first_is said)
   where
     by_many : (many : Bool) → ltb few (length all) ≡ many → Says (take (suc few) all) → Says all
     by_many true is =
@@ -160,52 +159,52 @@ module _ (first specials : List SpecialSlot) (many-first : 512 < length first) (
       by_tests false is false far-is false some_is true wide_is = rw (is, far-is, some_is, wide_is) (omega arith)
       by_tests false is false far-is false some_is false wide_is = rw (is, far-is, some_is, wide_is, many_wrong specials many (length profile) (nat_abs band) is) (omega arith)
 
-  many_built : (profile : List ℤ) (rest band : ℤ) (places numbers : ℕ) (answer : BuildAnswer) (terms : List Term) → Built profile rest band first places numbers answer terms → Built profile rest band specials places numbers answer terms
+  many_built : (profile : List ℤ) (rest band : ℤ) (places numbers : ℕ) (answer : Result BuiltSynopsis Refusal) (terms : List Term) → Built profile rest band first places numbers answer terms → Built profile rest band specials places numbers answer terms
   many_built profile rest band places numbers answer terms said =
-      let is : answer.refusal ≡ build_refusal profile rest band specials places numbers = said.refusal_is ∙ same_building profile rest band places numbers in
-      let wrong : 0 < answer.refusal = omega (arith, is, building_refused profile rest band places numbers) in
+      let is : (refused_with answer) ≡ build_refusal profile rest band specials places numbers = said.refusal_is ∙ same_building profile rest band places numbers in
+      let wrong : 0 < (refused_with answer) = omega (arith, is, building_refused profile rest band places numbers) in
       record {
         refusal_is = is;
-        terms_are = said.terms_are ∙ regranted answer.refusal _ (first_synopsis profile rest (slot_bands (length profile) (nat_abs band) specials)) [] wrong;
+        terms_are = said.terms_are ∙ regranted (refused_with answer) _ (first_synopsis profile rest (slot_bands (length profile) (nat_abs band) specials)) [] wrong;
         count_is = said.count_is;
         error_is = said.error_is;
       }
 
 -- a record that was written of other lists, which are refused as well
-rewritten : (n : ℕ) (band rest : ℤ) (first terms : List Term) (first-specials specials : List SpecialSlot) (answer : WriteAnswer) (before after : List ℕ)
+rewritten : (n : ℕ) (band rest : ℤ) (first terms : List Term) (first-specials specials : List SpecialSlot) (answer : Result ℕ Refusal) (before after : List ℕ)
     → packing_refusal n band rest first first-specials ≡ packing_refusal n band rest terms specials → 0 < packing_refusal n band rest terms specials
     → RecordWritten n band rest first first-specials answer before after → RecordWritten n band rest terms specials answer before after
 rewritten n band rest first terms first-specials specials answer before after same wrong-packing said =
-    let is = moved answer.refusal _ _ _ (6 when ltb (length before) (record_length (length terms) (length specials))) said.refusal_is same wrong-packing in
-    let wrong : 0 < answer.refusal = still_wrong answer.refusal _ _ is wrong-packing in
+    let is = moved (refused_with answer) _ _ _ (6 when ltb (length before) (record_length (length terms) (length specials))) said.refusal_is same wrong-packing in
+    let wrong : 0 < (refused_with answer) = still_wrong (refused_with answer) _ _ is wrong-packing in
     record {
       refusal_is = is;
-      count_is = said.count_is ∙ regranted answer.refusal _ (record_length (length terms) (length specials)) 0 wrong;
-      destination_is = said.destination_is ∙ ap (λ (l : List ℕ). laid l before) (regranted answer.refusal _ (record_bytes n (nat_abs band) rest terms specials) [] wrong);
+      count_is = said.count_is ∙ regranted (refused_with answer) _ (record_length (length terms) (length specials)) 0 wrong;
+      destination_is = said.destination_is ∙ ap (λ (l : List ℕ). laid l before) (regranted (refused_with answer) _ (record_bytes n (nat_abs band) rest terms specials) [] wrong);
     }
 
 -- the answers, of the list of terms that is lent
-module _ (terms : List Term) (parts : Parts) (of_terms : PartsOf terms parts) where
-  pub slot_restored : (n : ℕ) (rest : ℤ) (slot refusal : ℕ) (setpoint : ℤ) → SlotRestored n rest (terms_of parts) slot refusal setpoint → SlotRestored n rest terms slot refusal setpoint
-  slot_restored n rest slot refusal setpoint =
-      of_all 1023 (λ (l : List Term). SlotRestored n rest l slot refusal setpoint) terms of_terms (λ many-first many. many_slot (take 1024 terms) terms many-first many n rest slot refusal setpoint)
+module _ (terms : List Term) {first : List Term} (first_is : first ≡ take 1024 terms) where
+  pub slot_restored : {n : ℕ} {rest : ℤ} {slot refusal : ℕ} {setpoint : ℤ} → SlotRestored n rest first slot refusal setpoint → SlotRestored n rest terms slot refusal setpoint
+  slot_restored {n} {rest} {slot} {refusal} {setpoint} =
+      of_all 1023 (λ (l : List Term). SlotRestored n rest l slot refusal setpoint) terms first_is (λ many-first many. many_slot (take 1024 terms) terms many-first many n rest slot refusal setpoint)
 
-  pub profile_restored : (n : ℕ) (rest : ℤ) (refusal : ℕ) (before after : List ℤ) → ProfileRestored n rest (terms_of parts) refusal before after → ProfileRestored n rest terms refusal before after
-  profile_restored n rest refusal before after =
-      of_all 1023 (λ (l : List Term). ProfileRestored n rest l refusal before after) terms of_terms (λ many-first many. many_profile (take 1024 terms) terms many-first many n rest refusal before after)
+  pub profile_restored : {n : ℕ} {rest : ℤ} {refusal : ℕ} {before after : List ℤ} → ProfileRestored n rest first refusal before after → ProfileRestored n rest terms refusal before after
+  profile_restored {n} {rest} {refusal} {before} {after} =
+      of_all 1023 (λ (l : List Term). ProfileRestored n rest l refusal before after) terms first_is (λ many-first many. many_profile (take 1024 terms) terms many-first many n rest refusal before after)
 
-  module _ (specials : List SpecialSlot) (special-parts : SpecialParts) (of-specials : SpecialPartsOf specials special-parts) where
-    pub record_written : (n : ℕ) (band rest : ℤ) (answer : WriteAnswer) (before after : List ℕ) → RecordWritten n band rest (terms_of parts) (special_slots_of special-parts) answer before after → RecordWritten n band rest terms specials answer before after
-    record_written n band rest answer before after said =
-        of_all 512 (λ (l : List SpecialSlot). RecordWritten n band rest terms l answer before after) specials of-specials
-        (λ many-first many. rewritten n band rest terms terms (take 513 specials) specials answer before after (same_specials (take 513 specials) specials many-first many n band rest terms) (specials_refused (take 513 specials) specials many-first many n band rest terms))
-        (of_all 1023 (λ (l : List Term). RecordWritten n band rest l (special_slots_of special-parts) answer before after) terms of_terms
-        (λ many-first many. rewritten n band rest (take 1024 terms) terms (special_slots_of special-parts) (special_slots_of special-parts) answer before after (same_packing (take 1024 terms) terms many-first many n band rest (special_slots_of special-parts)) (packing_refused (take 1024 terms) terms many-first many n band rest (special_slots_of special-parts)))
-        said)
+  pub record_written : (specials : List SpecialSlot) {first-specials : List SpecialSlot} → first-specials ≡ take 513 specials → {n : ℕ} {band rest : ℤ} {answer : Result ℕ Refusal} {before after : List ℕ}
+      → RecordWritten n band rest first first-specials answer before after → RecordWritten n band rest terms specials answer before after
+  record_written specials {first-specials} specials-are {n} {band} {rest} {answer} {before} {after} said =
+      of_all 512 (λ (l : List SpecialSlot). RecordWritten n band rest terms l answer before after) specials specials-are
+      (λ many-first many. rewritten n band rest terms terms (take 513 specials) specials answer before after (same_specials (take 513 specials) specials many-first many n band rest terms) (specials_refused (take 513 specials) specials many-first many n band rest terms))
+      (of_all 1023 (λ (l : List Term). RecordWritten n band rest l first-specials answer before after) terms first_is
+      (λ many-first many. rewritten n band rest (take 1024 terms) terms first-specials first-specials answer before after (same_packing (take 1024 terms) terms many-first many n band rest first-specials) (packing_refused (take 1024 terms) terms many-first many n band rest first-specials))
+      said)
 
 -- the answers of building, of the list of special slots that is lent
-pub built_for : (specials : List SpecialSlot) (special-parts : SpecialParts) → SpecialPartsOf specials special-parts → (profile : List ℤ) (rest band : ℤ) (places numbers : ℕ) (answer : BuildAnswer) (terms : List Term)
-    → Built profile rest band (special_slots_of special-parts) places numbers answer terms → Built profile rest band specials places numbers answer terms
-built_for specials special-parts of-specials profile rest band places numbers answer terms =
-    of_all 512 (λ (l : List SpecialSlot). Built profile rest band l places numbers answer terms) specials of-specials
+pub built_for : (specials : List SpecialSlot) {first : List SpecialSlot} → first ≡ take 513 specials → {profile : List ℤ} {rest band : ℤ} {places numbers : ℕ} {answer : Result BuiltSynopsis Refusal} {terms : List Term}
+    → Built profile rest band first places numbers answer terms → Built profile rest band specials places numbers answer terms
+built_for specials first_is {profile} {rest} {band} {places} {numbers} {answer} {terms} =
+    of_all 512 (λ (l : List SpecialSlot). Built profile rest band l places numbers answer terms) specials first_is
     (λ many-first many. many_built (take 513 specials) specials many-first many profile rest band places numbers answer terms)

@@ -278,12 +278,12 @@ fn build_for(
     print_call(out, b"build ", what)?;
     print_built(out, answer)?;
     print_terms(out, terms)?;
-    print_scratch(out, answer.refusal, scratch)
+    print_scratch(out, answer.is_err(), scratch)
 }
 
 // Ends a line with what a refusal left in scratch; after a success that is open.
-fn print_scratch(out: &mut impl Write, refusal: u8, scratch: &[i16]) -> io::Result<()> {
-    if 0 < refusal {
+fn print_scratch(out: &mut impl Write, refused: bool, scratch: &[i16]) -> io::Result<()> {
+    if refused {
         print(out, b" scratch")?;
         print_unchanged(out, scratch, 9)?;
     }

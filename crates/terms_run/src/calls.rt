@@ -3,24 +3,23 @@
 ghost use Rattle.std.specs.Prelude.{◌≤◌};
 
 use bands::SpecialSlot;
-use build::BuildAnswer;
+use build::BuiltSynopsis;
 use histogram::Term;
-use histogram::restore::SlotAnswer;
-use profile::TextAnswer;
-use record_read::HeaderAnswer;
-use record_write::WriteAnswer;
+use profile::TextNumbers;
+use record_read::Header;
+use refusals::Refusal;
 
 // What building answers, and its destination.
 #[derive(Drop)]
 pub struct Built {
-    pub answer: BuildAnswer,
+    pub answer: Result<BuiltSynopsis, Refusal>,
     pub terms: [Term; 1100],
 }
 
 // What reading answers, and its destinations.
 #[derive(Drop)]
 pub struct Read {
-    pub header: HeaderAnswer,
+    pub header: Result<Header, Refusal>,
     pub terms: [Term; 1100],
     pub specials: [SpecialSlot; 600],
 }
@@ -28,7 +27,7 @@ pub struct Read {
 // What reading a profile text answers, and its destination for special slots.
 #[derive(Drop)]
 pub struct Typed {
-    pub answer: TextAnswer,
+    pub answer: Result<TextNumbers, Refusal>,
     pub specials: [SpecialSlot; 600],
 }
 
@@ -38,7 +37,7 @@ pub fn restore_slot(
     terms: [Term; 1100],
     count: usize,
     slot: usize,
-) -> SlotAnswer
+) -> Result<i16, Refusal>
     requires { count ≤ 1100 }
 {
     synopsis::restore_slot(slots, rest, &terms[..count], slot)
@@ -50,7 +49,7 @@ pub fn restore_profile(
     terms: [Term; 1100],
     count: usize,
     setpoints: &mut [i16],
-) -> u8
+) -> Result<(), Refusal>
     requires { count ≤ 1100 }
 {
     synopsis::restore_profile(slots, rest, &terms[..count], setpoints)
@@ -65,7 +64,7 @@ pub fn write_record(
     specials: [SpecialSlot; 600],
     number: usize,
     bytes: &mut [u8],
-) -> WriteAnswer
+) -> Result<usize, Refusal>
     requires { (count ≤ 1100) × (number ≤ 600) }
 {
     synopsis::write_record(
@@ -93,11 +92,15 @@ pub fn read_record(
     made_read(header, destination, second)
 }
 
-fn made_read(header: HeaderAnswer, terms: [Term; 1100], specials: [SpecialSlot; 600]) -> Read {
+fn made_read(
+    header: Result<Header, Refusal>,
+    terms: [Term; 1100],
+    specials: [SpecialSlot; 600],
+) -> Read {
     Read {
-        header: header,
-        terms: terms,
-        specials: specials,
+        header,
+        terms,
+        specials,
     }
 }
 
@@ -125,11 +128,8 @@ pub fn build(
     made_built(answer, destination)
 }
 
-fn made_built(answer: BuildAnswer, terms: [Term; 1100]) -> Built {
-    Built {
-        answer: answer,
-        terms: terms,
-    }
+fn made_built(answer: Result<BuiltSynopsis, Refusal>, terms: [Term; 1100]) -> Built {
+    Built { answer, terms }
 }
 
 pub fn read_profile(
@@ -145,9 +145,6 @@ pub fn read_profile(
     made_typed(answer, destination)
 }
 
-fn made_typed(answer: TextAnswer, specials: [SpecialSlot; 600]) -> Typed {
-    Typed {
-        answer: answer,
-        specials: specials,
-    }
+fn made_typed(answer: Result<TextNumbers, Refusal>, specials: [SpecialSlot; 600]) -> Typed {
+    Typed { answer, specials }
 }

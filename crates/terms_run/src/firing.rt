@@ -6,7 +6,7 @@ use crate::{
 };
 use histogram::Term;
 use printing::{
-    print, print_bytes, print_count_after, print_refusal, print_setpoint, print_setpoints,
+    print, print_bytes, print_count_after, print_outcome, print_setpoint, print_setpoints,
 };
 use std::io;
 use std::io::Write;
@@ -64,17 +64,17 @@ fn restore(out: &mut impl Write, terms: [Term; 1100]) -> io::Result<()> {
 fn slot(out: &mut impl Write, terms: [Term; 1100], asked: usize) -> io::Result<()> {
     let answer = restore_slot(4, 1400, terms, 1, asked);
     print_count_after(out, b"its slot ", asked)?;
-    print_refusal(out, answer.refusal)?;
-    print_setpoint(out, answer.setpoint)?;
+    print_outcome(out, &answer)?;
+    print_setpoint(out, answer.unwrap_or(0))?;
     print(out, b"\n")
 }
 
 // All slots, with a place to spare.
 fn profile(out: &mut impl Write, terms: [Term; 1100]) -> io::Result<()> {
     let mut setpoints = [7i16; 5];
-    let refusal = restore_profile(4, 1400, terms, 1, &mut setpoints);
+    let answer = restore_profile(4, 1400, terms, 1, &mut setpoints);
     print(out, b"its profile")?;
-    print_refusal(out, refusal)?;
+    print_outcome(out, &answer)?;
     print_setpoints(out, &setpoints)?;
     print(out, b"\n")
 }

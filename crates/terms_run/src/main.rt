@@ -13,14 +13,14 @@ mod typing;
 mod writing;
 
 use bands::SpecialSlot;
-use build::BuildAnswer;
+use build::BuiltSynopsis;
 use histogram::Term;
 use printing::{
-    print, print_count_after, print_number_after, print_refusal, print_special, print_term,
+    print, print_count_after, print_number_after, print_outcome, print_special, print_term,
 };
-use profile::TextAnswer;
-use record_read::HeaderAnswer;
-use record_write::WriteAnswer;
+use profile::TextNumbers;
+use record_read::Header;
+use refusals::Refusal;
 use std::io;
 use std::io::Write;
 
@@ -36,21 +36,30 @@ fn main(rt: HostRuntime) -> io::Result<()> {
 }
 
 // Prints the refusal's number, the count and the greatest error.
-fn print_built(out: &mut impl Write, answer: BuildAnswer) -> io::Result<()> {
-    print_refusal(out, answer.refusal)?;
-    print_count_after(out, b" ", answer.count)?;
-    print_number_after(out, b" ", answer.error as i32)
+fn print_built(out: &mut impl Write, answer: Result<BuiltSynopsis, Refusal>) -> io::Result<()> {
+    print_outcome(out, &answer)?;
+    let built = answer.unwrap_or(BuiltSynopsis { count: 0, error: 0 });
+    print_count_after(out, b" ", built.count)?;
+    print_number_after(out, b" ", i32::from(built.error))
 }
 
 // Prints the refusal's number and the count of bytes.
-fn print_written(out: &mut impl Write, answer: WriteAnswer) -> io::Result<()> {
-    print_refusal(out, answer.refusal)?;
-    print_count_after(out, b" ", answer.count)
+fn print_written(out: &mut impl Write, answer: Result<usize, Refusal>) -> io::Result<()> {
+    print_outcome(out, &answer)?;
+    print_count_after(out, b" ", answer.unwrap_or(0))
 }
 
 // Prints the refusal's number, the slots, the band, the rest value and the counts of terms and of special slots.
-fn print_header(out: &mut impl Write, header: HeaderAnswer) -> io::Result<()> {
-    print_refusal(out, header.refusal)?;
+fn print_header(out: &mut impl Write, answer: Result<Header, Refusal>) -> io::Result<()> {
+    let nothing = Header {
+        slots: 0,
+        band: 0,
+        rest: 0,
+        count: 0,
+        specials: 0,
+    };
+    print_outcome(out, &answer)?;
+    let header = answer.unwrap_or(nothing);
     print_count_after(out, b" ", header.slots)?;
     print_number_after(out, b" ", header.band)?;
     print_number_after(out, b" ", header.rest)?;
@@ -59,12 +68,19 @@ fn print_header(out: &mut impl Write, header: HeaderAnswer) -> io::Result<()> {
 }
 
 // Prints the refusal's number, the rest value, the band and the counts of slots and of special slots.
-fn print_typed(out: &mut impl Write, answer: TextAnswer) -> io::Result<()> {
-    print_refusal(out, answer.refusal)?;
-    print_number_after(out, b" ", answer.rest)?;
-    print_number_after(out, b" ", answer.band)?;
-    print_count_after(out, b" ", answer.slots)?;
-    print_count_after(out, b" ", answer.specials)
+fn print_typed(out: &mut impl Write, answer: Result<TextNumbers, Refusal>) -> io::Result<()> {
+    let nothing = TextNumbers {
+        rest: 0,
+        band: 0,
+        slots: 0,
+        specials: 0,
+    };
+    print_outcome(out, &answer)?;
+    let numbers = answer.unwrap_or(nothing);
+    print_number_after(out, b" ", numbers.rest)?;
+    print_number_after(out, b" ", numbers.band)?;
+    print_count_after(out, b" ", numbers.slots)?;
+    print_count_after(out, b" ", numbers.specials)
 }
 
 // Prints the first four places of a destination.

@@ -4,7 +4,7 @@ ghost use Rattle.std.specs.Prelude.{◌≤◌};
 use crate::calls::{restore_profile, restore_slot};
 use crate::lists::{every_node, one_term, two_terms};
 use histogram::Term;
-use printing::{print, print_call, print_refusal, print_setpoint, print_setpoints};
+use printing::{print, print_call, print_outcome, print_setpoint, print_setpoints};
 use std::io;
 use std::io::Write;
 
@@ -90,8 +90,8 @@ fn slot(
 {
     let answer = restore_slot(slots, rest, terms, count, asked);
     print_call(out, b"a slot ", what)?;
-    print_refusal(out, answer.refusal)?;
-    print_setpoint(out, answer.setpoint)?;
+    print_outcome(out, &answer)?;
+    print_setpoint(out, answer.unwrap_or(0))?;
     print(out, b"\n")
 }
 
@@ -107,9 +107,9 @@ fn profile(
     requires { count ≤ 1100 }
 {
     let mut setpoints = [7i16; 4];
-    let refusal = restore_profile(slots, rest, terms, count, &mut setpoints);
+    let answer = restore_profile(slots, rest, terms, count, &mut setpoints);
     print_call(out, b"all slots, ", what)?;
-    print_refusal(out, refusal)?;
+    print_outcome(out, &answer)?;
     print_setpoints(out, &setpoints)?;
     print(out, b"\n")
 }

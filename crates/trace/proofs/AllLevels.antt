@@ -41,12 +41,6 @@ module _ {scratch : List ℤ} {height value : ℕ} {nodes : List ℕ} {values : 
       → UpperTraced levels scratch height value nodes nodes' values values' count → Traced (upper first) nodes nodes' values values' count
   so_far first first_is traced = rw first_is at (traced.each stretch.leaves stretch.usable stretch.solved)
 
-  -- the slices are as long as before
-  pub upper_long : {levels : ℕ} {nodes' : List ℕ} {values' : List ℤ} {count : ℕ} → UpperTraced levels scratch height value nodes nodes' values values' count
-      → (length nodes' ≡ length nodes) × (length values' ≡ length nodes)
-  upper_long {levels} traced =
-      traced_long (traced.each stretch.leaves stretch.usable stretch.solved) (upper_fits (min levels (suc height)) (omega arith)) fits.same_room
-
   module _ {next : ℕ} (next_is : next ≡ handed_on (set_at scratch 0) value) where
     root_handed : next ≡ handed_on (set_of height stretch.leaves) value
     root_handed = next_is ∙ ap (λ (one : Answer). handed_on one.windows value) (top_is stretch)

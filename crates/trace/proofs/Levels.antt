@@ -8,7 +8,6 @@ use native.Mathlib.Omega.{arith}
 use lib.Dec.{T}
 use lib.IntN.{ℤ}
 use lib.ListN.{length, take, drop, length-append}
-use lib.Pow.{pow_mono}
 use Rattle.histogram.specs.declared.Term.{Term}
 use Rattle.claims.specs.Inner.{with_term}
 use Rattle.windows.specs.Windows.{Window, covers}
@@ -61,9 +60,6 @@ module _ {scratch : List ℤ} {height depth node value : ℕ} {nodes : List ℕ}
   abbrev terms : List Term
   terms = level_terms depth height stretch.leaves node value
 
-  pub node_small : node < 1024
-  node_small = omega (arith, fits.node_within, pow_mono {i = 10 - depth} {j = 10} (omega arith))
-
   in_top_set : covers (set_of height stretch.leaves) value ≡ true
   in_top_set = subst (λ (one : Answer). covers one.windows value ≡ true) (top_is stretch) fits.in_set
 
@@ -110,6 +106,11 @@ pub record Descent (scratch : List ℤ) (height depth below node value : ℕ) (n
   pub some : 0 < at scratch 0
   pub planned : Planned height half own middle end
   pub handed : HandedToChildren scratch own middle value left right
+
+pub descended : {scratch : List ℤ} {height depth below node value : ℕ} {nodes : List ℕ} {values : List ℤ} {count half own middle end left right : ℕ}
+    → LevelFits scratch height depth node value nodes values count → depth ≡ suc below → 0 < at scratch 0 → Planned height half own middle end → HandedToChildren scratch own middle value left right
+    → Descent scratch height depth below node value nodes values count half own middle end left right
+descended fits deeper some planned handed = record { fits = fits; deeper = deeper; some = some; planned = planned; handed = handed }
 
 module _ {scratch : List ℤ} {height depth below node value : ℕ} {nodes : List ℕ} {values : List ℤ} {count half own middle end left right : ℕ}
     (descent : Descent scratch height depth below node value nodes values count half own middle end left right) where

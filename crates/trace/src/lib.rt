@@ -1,5 +1,6 @@
 // Tracing: the walk that reads the solved scratch from the root down and writes the terms of the first of the smallest synopses.
 // A node hands on to its children the value that comes in where that is in the node's set, else the lowest value of the set, and then it has a term.
+// Terms come as two slices of equal length, nodes and values: document 01 has slices of structs in thin functions around such code.
 #![tactic(auto)]
 
 ghost use Rattle.std.specs.Prelude.{◌≡◌, [], ◌≤◌};
@@ -22,10 +23,8 @@ pub fn trace(
 {
     let next = hand_on(scratch, value);
     let mut count = trace_top(scratch, height, value, next, nodes, values);
-    let mut depth = 2;
-    while depth <= height {
+    for depth in 2..=height {
         count = trace_level(scratch, height, depth, 1, next, nodes, values, count);
-        depth += 1;
     }
     count
 }
@@ -72,12 +71,12 @@ fn trace_level(
     let own = parts.own as usize;
     let middle = parts.middle as usize;
     let end = parts.end as usize;
-    let next = hand_to_children(scratch, parts.own, parts.middle, value);
-    let left = next.left;
-    let right = next.right;
+    let Handed { left, right } = hand_to_children(scratch, parts.own, parts.middle, value);
+    let left_part = &scratch[own..middle];
+    let right_part = &scratch[middle..end];
     if 2 < depth {
         let first = trace_level(
-            &scratch[own..middle],
+            left_part,
             height - 1,
             depth - 1,
             2 * node,
@@ -87,7 +86,7 @@ fn trace_level(
             count,
         );
         trace_level(
-            &scratch[middle..end],
+            right_part,
             height - 1,
             depth - 1,
             2 * node + 1,
@@ -97,17 +96,9 @@ fn trace_level(
             first,
         )
     } else {
-        let first = trace_children(
-            &scratch[own..middle],
-            height - 1,
-            2 * node,
-            left,
-            nodes,
-            values,
-            count,
-        );
+        let first = trace_children(left_part, height - 1, 2 * node, left, nodes, values, count);
         trace_children(
-            &scratch[middle..end],
+            right_part,
             height - 1,
             2 * node + 1,
             right,
@@ -137,9 +128,9 @@ fn trace_children(
         return count;
     }
     let parts = plan(height);
-    let next = hand_to_children(scratch, parts.own, parts.middle, value);
-    let first = write_term(2 * node, value, next.left, nodes, values, count);
-    write_term(2 * node + 1, value, next.right, nodes, values, first)
+    let Handed { left, right } = hand_to_children(scratch, parts.own, parts.middle, value);
+    let first = write_term(2 * node, value, left, nodes, values, count);
+    write_term(2 * node + 1, value, right, nodes, values, first)
 }
 
 // Writes the term of a node, where it hands on another value than comes in, behind the first `count`; the answer is how many there are then.
@@ -163,7 +154,7 @@ fn write_term(
 }
 
 // What two children hand on.
-#[derive(Drop)]
+#[derive(Clone, Copy)]
 struct Handed {
     left: u32,
     right: u32,
@@ -177,12 +168,11 @@ fn hand_to_children(scratch: &[i16], left: u32, right: u32, value: u32) -> Hande
 {
     let numbers = load(scratch, left) + load(scratch, right);
     if load(scratch, 0) <= numbers {
-        return Handed {
+        Handed {
             left: value,
             right: value,
-        };
-    }
-    if is_covered(scratch, left + 2, load(scratch, left + 1), value) {
+        }
+    } else if is_covered(scratch, left + 2, load(scratch, left + 1), value) {
         Handed {
             left: value,
             right: load(scratch, right + 2),
@@ -201,7 +191,8 @@ fn hand_on(scratch: &[i16], value: u32) -> u32
     ensures { result ≡ handed_on (set_at scratch.now 0) value }
 {
     if is_covered(scratch, 2, load(scratch, 1), value) {
-        return value;
+        value
+    } else {
+        load(scratch, 2)
     }
-    load(scratch, 2)
 }

@@ -1,6 +1,5 @@
 -- The loop that compares: its invariant (`SoFar`) says that no slot passed is beyond its band, and what their greatest difference and the least that a band leaves are.
 use mathlib.Core.Path.{◌≡◌, refl, sym, ap, ◌∙◌}
-use mathlib.Core.Bool.{true, false}
 use mathlib.Core.List.{List}
 use Prim.Native.Nat.{ℕ, zero, suc, ◌+◌, ◌-◌, ◌≤◌, ◌<◌, min, max}
 use native.Mathlib.Numerals.{add-one}
@@ -13,6 +12,7 @@ use borrow.Author.Tests.{le-leb, lt-leb, lt-ltb, le-ltb}
 use Rattle.limits.proofs.Lowest.{lowest_is}
 use Rattle.histogram.specs.Errors.{slot_band, greatest, least}
 use Rattle.histogram.proofs.Kept.{every_passes, one_fails}
+use Rattle.std.specs.Prelude.{Ok, Err}
 use Rattle.verdict.specs.Inner.{difference, Compared}
 
 -- the least of 40,000 and what a function gives for 0, 1 and on, `count` of them
@@ -32,39 +32,36 @@ module _ (profile restored : List ℤ) (bands : List ℕ) where
   left place = slot_band bands place - difference profile restored place
 
   pub record SoFar (largest smallest slot : ℕ) : Type 0 where
-    pub inside : slot ≤ length profile
     pub within : (k : ℕ) → k < slot → difference profile restored k ≤ slot_band bands k
     pub largest_is : largest ≡ greatest (difference profile restored) slot
-    pub small : largest ≤ 40000
+    pub largest_small : largest ≤ 40000
     pub smallest_is : smallest ≡ least_of left slot
     pub smallest_small : smallest ≤ 40000
 
   pub begun : SoFar 0 40000 0
   unfolding greatest least_of
   begun = record {
-    inside = omega arith;
     within = below_none (λ (k : ℕ). difference profile restored k ≤ slot_band bands k);
     largest_is = refl;
-    small = omega arith;
+    largest_small = omega arith;
     smallest_is = refl;
     smallest_small = omega arith;
   }
 
-  pub one_more : (largest smallest slot error : ℕ) → SoFar largest smallest slot → slot < length profile → error ≡ difference profile restored slot → error ≤ 40000 → error ≤ slot_band bands slot
-      → SoFar (max largest error) (min smallest (slot_band bands slot - error)) (slot + 1)
+  pub one_more : {largest smallest slot error : ℕ} → SoFar largest smallest slot → error ≡ difference profile restored slot → error ≤ slot_band bands slot → slot_band bands slot ≤ 40000
+      → SoFar (max error largest) (min (slot_band bands slot - error) smallest) (slot + 1)
   unfolding greatest least_of
-  one_more largest smallest slot error so_far more is error-small near = record {
-    inside = omega arith;
+  one_more {largest} {smallest} {slot} {error} so_far is near small = record {
     within = below_more (λ (k : ℕ). difference profile restored k ≤ slot_band bands k) slot so_far.within (omega (arith, is));
-    largest_is = rw (add-one slot) (ap (λ (l : ℕ). max l error) so_far.largest_is ∙ ap (λ (e : ℕ). max (greatest (difference profile restored) slot) e) is);
-    small = omega (arith, so_far.small);
-    smallest_is = rw (add-one slot) (ap (λ (l : ℕ). min l (slot_band bands slot - error)) so_far.smallest_is ∙ ap (λ (e : ℕ). min (least_of left slot) (slot_band bands slot - e)) is);
+    largest_is = rw (add-one slot) (omega (arith, so_far.largest_is, is));
+    largest_small = omega (arith, so_far.largest_small);
+    smallest_is = rw (add-one slot) (omega (arith, so_far.smallest_is, is));
     smallest_small = omega (arith, so_far.smallest_small);
   }
 
-  pub beyond_band : (largest smallest slot error : ℕ) → SoFar largest smallest slot → slot < length profile → error ≡ difference profile restored slot → slot_band bands slot < error
-      → Compared profile restored bands (record { kept = false; error = 0; margin = 0; slot = slot })
-  beyond_band largest smallest slot error so_far more is far = record {
+  pub beyond_band : {largest smallest slot error : ℕ} → SoFar largest smallest slot → slot < length profile → error ≡ difference profile restored slot → slot_band bands slot < error
+      → Compared profile restored bands (Err (record { slot = slot }))
+  beyond_band {slot = slot} so_far more is far = record {
     kept_is =
         sym
         (one_fails (λ k. leb (difference profile restored k) (slot_band bands k)) (length profile) slot more
@@ -78,15 +75,14 @@ module _ (profile restored : List ℤ) (bands : List ℕ) where
         (lt-ltb (slot_band bands slot) (difference profile restored slot) (omega (arith, is))));
   }
 
-  pub all_within : (largest smallest slot : ℕ) → SoFar largest smallest slot → 1 ≤ length profile → ((place : ℕ) → slot_band bands place ≤ 40000) → length profile ≤ slot
-      → Compared profile restored bands (record { kept = true; error = largest; margin = smallest; slot = 0 })
-  all_within largest smallest slot so_far some small done =
-      let same : slot ≡ length profile = omega (arith, so_far.inside) in record {
-        kept_is =
-            sym
-            (every_passes (λ k. leb (difference profile restored k) (slot_band bands k)) (length profile)
-            (λ k below. le-leb (difference profile restored k) (slot_band bands k) (so_far.within k (omega arith))));
-        error_is = so_far.largest_is ∙ ap (greatest (difference profile restored)) same;
-        margin_is = so_far.smallest_is ∙ ap (least_of left) same ∙ least_of_lem left (length profile) some (λ k below. omega (arith, small k));
-        slot_is = refl;
-      }
+  pub all_within : {largest smallest : ℕ} → SoFar largest smallest (length profile) → 1 ≤ length profile → ((place : ℕ) → slot_band bands place ≤ 40000)
+      → Compared profile restored bands (Ok (record { error = largest; margin = smallest }))
+  all_within so_far some small = record {
+    kept_is =
+        sym
+        (every_passes (λ k. leb (difference profile restored k) (slot_band bands k)) (length profile)
+        (λ k below. le-leb (difference profile restored k) (slot_band bands k) (so_far.within k below)));
+    error_is = so_far.largest_is;
+    margin_is = so_far.smallest_is ∙ least_of_lem left (length profile) some (λ k below. omega (arith, small k));
+    slot_is = refl;
+  }

@@ -1,28 +1,26 @@
 -- From the values handed down to all nodes to the verdict: the slots' part of them is what a synopsis restores.
 use mathlib.Core.Path.{◌≡◌, ap, ◌∙◌}
 use mathlib.Core.Bool.{cond}
-use mathlib.Core.Logic.{⊎_elim}
+use Rattle.std.specs.Prelude.{Result, is_ok}
 use mathlib.Core.List.{List}
 use Prim.Native.Nat.{ℕ, ◌+◌, ◌*◌, ◌-◌, ◌≤◌, ◌<◌}
 use native.Mathlib.Omega.{arith}
 use lib.Dec.{leb, ltb}
 use lib.IntN.{ℤ, pos, nat_abs, ◌-ℤ◌}
-use lib.ListN.{length, get_or, take, drop, length-take, length-drop, get_or-eq_default}
+use lib.ListN.{length, get_or, take, drop}
 use lib.Seq.{get_or-take, get_or-drop}
-use Rattle.limits.proofs.Beyond.{within_all}
 use Rattle.limits.proofs.Lowest.{lowest_same}
 use Rattle.histogram.specs.Tree.{padded}
 use Rattle.histogram.specs.Terms.{paired}
-use Rattle.histogram.specs.Restored.{restored_at, restored_slot, path_nodes}
+use Rattle.histogram.specs.Restored.{restored_at, restored_slot}
 use Rattle.histogram.specs.Errors.{setpoint_of, slot_error, slot_band, slot_margin}
 use Rattle.histogram.proofs.Kept.{every_same}
 use Rattle.histogram.proofs.Margins.{least_same}
-use Rattle.histogram.proofs.Order.{below_or_not}
 use Rattle.histogram.proofs.Powers.{height_reaches}
-use Rattle.histogram.proofs.Within.{restored_within}
-use Rattle.verdict.specs.declared.Verdict.{Verdict}
+use Rattle.verdict.specs.declared.Kept.{Kept}
+use Rattle.verdict.specs.declared.Beyond.{Beyond}
 use Rattle.verdict.specs.Verdict.{Judged}
-use Rattle.verdict.specs.Inner.{difference, Comparable, Compared, Judgeable}
+use Rattle.verdict.specs.Inner.{difference, Compared, Judgeable}
 use Rattle.verdict.proofs.Verdicts.{greatest_same}
 
 module _ (profile : List ℤ) (bands : List ℕ) (rest : ℤ) (nodes : List ℕ) (values : List ℤ) (asked : Judgeable profile bands rest nodes values)
@@ -35,9 +33,6 @@ module _ (profile : List ℤ) (bands : List ℕ) (rest : ℤ) (nodes : List ℕ)
   in_leaves : length profile ≤ first
   in_leaves = omega (arith, height_reaches (length profile))
 
-  part_long : length part ≡ length profile
-  part_long = simp (length-take, length-drop) (omega (arith, in_leaves))
-
   -- what stands in a slot is what the synopsis restores there
   slot_value : (slot : ℕ) → slot < length profile → get_or part slot (pos 0) ≡ restored_slot (length profile) rest (paired nodes values) slot
   slot_value slot below =
@@ -46,30 +41,10 @@ module _ (profile : List ℤ) (bands : List ℕ) (rest : ℤ) (nodes : List ℕ)
       ∙ at_node (first + slot) (omega (arith, in_leaves))
       ∙ ap (λ (m : ℕ). restored_at rest (paired nodes values) (m + slot)) first_is
 
-  part_within : (slot : ℕ) → nat_abs (get_or part slot (pos 0)) ≤ 20000
-  part_within slot =
-      ⊎_elim
-      (λ below. rw (slot_value slot below) (restored_within rest (paired nodes values) (record { passes = asked.terms_valid }) asked.rest_within (path_nodes (padded (length profile) + slot)) _))
-      (λ above. rw (get_or-eq_default part (pos 0) {n = slot} (omega (arith, part_long))) (omega arith))
-      (below_or_not slot (length profile))
-
-  pub comparable : Comparable profile part bands
-  comparable = record {
-    matching = record {
-      same_length = part_long;
-      few_slots = asked.few_slots;
-      profile_within = within_all profile asked.none_beyond;
-      restored_within = part_within;
-    };
-    some_slot = asked.some_slot;
-    each_band = asked.each_band;
-    bands_within = asked.bands_within;
-  }
-
   same_error : (slot : ℕ) → slot < length profile → difference profile part slot ≡ slot_error profile rest (paired nodes values) slot
   same_error slot below = ap (λ (value : ℤ). nat_abs (setpoint_of profile slot -ℤ value)) (slot_value slot below)
 
-  pub judged : (verdict : Verdict) → Compared profile part bands verdict → Judged profile rest (paired nodes values) bands verdict
+  pub judged : (verdict : Result Kept Beyond) → Compared profile part bands verdict → Judged profile rest (paired nodes values) bands verdict
   judged verdict compared = record {
     kept_is =
         compared.kept_is
@@ -77,15 +52,15 @@ module _ (profile : List ℤ) (bands : List ℕ) (rest : ℤ) (nodes : List ℕ)
         (λ k below. ap (λ (e : ℕ). leb e (slot_band bands k)) (same_error k below));
     error_is =
         compared.error_is
-        ∙ ap (λ (e : ℕ). cond verdict.kept e 0) (greatest_same (difference profile part) (slot_error profile rest (paired nodes values)) (length profile) same_error);
+        ∙ ap (λ (e : ℕ). cond (is_ok verdict) e 0) (greatest_same (difference profile part) (slot_error profile rest (paired nodes values)) (length profile) same_error);
     margin_is =
         compared.margin_is
-        ∙ ap (λ (g : ℕ). cond verdict.kept g 0)
+        ∙ ap (λ (g : ℕ). cond (is_ok verdict) g 0)
         (least_same (λ k. slot_band bands k - difference profile part k) (slot_margin profile rest (paired nodes values) bands) (length profile)
         (λ k below. ap (λ (e : ℕ). slot_band bands k - e) (same_error k below)));
     slot_is =
         compared.slot_is
-        ∙ ap (λ (s : ℕ). cond verdict.kept 0 s)
+        ∙ ap (λ (s : ℕ). cond (is_ok verdict) 0 s)
         (lowest_same (λ k. ltb (slot_band bands k) (difference profile part k)) (λ k. ltb (slot_band bands k) (slot_error profile rest (paired nodes values) k)) (length profile)
         (λ k below. ap (ltb (slot_band bands k)) (same_error k below)));
   }

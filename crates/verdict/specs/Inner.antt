@@ -1,10 +1,12 @@
 -- What inner functions ask and promise. A reader of the promises need not open this file.
-use Rattle.std.specs.Prelude.{◌≡◌, not, cond, List, ℕ, ◌-◌, ◌≤◌, ◌<◌, T, leb, ltb, ℤ, pos, ◌-ℤ◌, nat_abs, length, get_or}
+use Rattle.std.specs.Prelude.{◌≡◌, not, cond, List, ℕ, ◌-◌, ◌≤◌, ◌<◌, T, leb, ltb, ℤ, pos, ◌-ℤ◌, nat_abs, length, get_or, Result, is_ok}
 use Rattle.limits.specs.Limits.{any_beyond}
 use Rattle.limits.specs.Lowest.{lowest}
 use Rattle.histogram.specs.Terms.{paired, valid}
 use Rattle.histogram.specs.Errors.{setpoint_of, slot_band, greatest, least, every}
-use Rattle.verdict.specs.declared.Verdict.{Verdict}
+use Rattle.verdict.specs.declared.Kept.{Kept}
+use Rattle.verdict.specs.declared.Beyond.{Beyond}
+use Rattle.verdict.specs.Verdict.{error_of, margin_of, slot_of}
 
 -- a profile of a slot or more with their bands, and a synopsis that can be judged
 pub record Judgeable (profile : List ℤ) (bands : List ℕ) (rest : ℤ) (nodes : List ℕ) (values : List ℤ) : Type 0 where
@@ -21,32 +23,22 @@ pub record Judgeable (profile : List ℤ) (bands : List ℕ) (rest : ℤ) (nodes
 abbrev pub difference : List ℤ → List ℤ → ℕ → ℕ
 difference profile restored slot = nat_abs (setpoint_of profile slot -ℤ get_or restored slot (pos 0))
 
--- setpoints and as many restored values, all within ±20,000
-pub record Matching (profile restored : List ℤ) : Type 0 where
-  pub same_length : length restored ≡ length profile
-  pub few_slots : length profile ≤ 512
-  pub profile_within : (slot : ℕ) → nat_abs (setpoint_of profile slot) ≤ 20000
-  pub restored_within : (slot : ℕ) → nat_abs (get_or restored slot (pos 0)) ≤ 20000
-
--- the same for a slot or more, with their bands
+-- setpoints of a slot or more, with as many restored values and bands
 pub record Comparable (profile restored : List ℤ) (bands : List ℕ) : Type 0 where
-  pub matching : Matching profile restored
+  pub same_length : length restored ≡ length profile
   pub some_slot : 1 ≤ length profile
+  pub few_slots : length profile ≤ 512
   pub each_band : length bands ≡ length profile
   pub bands_within : (slot : ℕ) → slot_band bands slot ≤ 40000
 
--- a slot that has a setpoint
+-- a slot that has a setpoint, and a value restored
 pub record InSlot (profile restored : List ℤ) (slot : ℕ) : Type 0 where
-  pub matching : Matching profile restored
+  pub same_length : length restored ≡ length profile
   pub inside : slot < length profile
 
-pub record ErrorIs (profile restored : List ℤ) (slot error : ℕ) : Type 0 where
-  pub is : error ≡ difference profile restored slot
-  pub small : error ≤ 40000
-
 -- whether every difference is within its slot's band, with the greatest and the least that a band leaves if so, and else the lowest slot beyond its band
-pub record Compared (profile restored : List ℤ) (bands : List ℕ) (verdict : Verdict) : Type 0 where
-  pub kept_is : verdict.kept ≡ every (λ place. leb (difference profile restored place) (slot_band bands place)) (length profile)
-  pub error_is : verdict.error ≡ cond verdict.kept (greatest (difference profile restored) (length profile)) 0
-  pub margin_is : verdict.margin ≡ cond verdict.kept (least (λ place. slot_band bands place - difference profile restored place) (length profile)) 0
-  pub slot_is : verdict.slot ≡ cond verdict.kept 0 (lowest (λ place. ltb (slot_band bands place) (difference profile restored place)) (length profile))
+pub record Compared (profile restored : List ℤ) (bands : List ℕ) (verdict : Result Kept Beyond) : Type 0 where
+  pub kept_is : is_ok verdict ≡ every (λ place. leb (difference profile restored place) (slot_band bands place)) (length profile)
+  pub error_is : error_of verdict ≡ cond (is_ok verdict) (greatest (difference profile restored) (length profile)) 0
+  pub margin_is : margin_of verdict ≡ cond (is_ok verdict) (least (λ place. slot_band bands place - difference profile restored place) (length profile)) 0
+  pub slot_is : slot_of verdict ≡ cond (is_ok verdict) 0 (lowest (λ place. ltb (slot_band bands place) (difference profile restored place)) (length profile))

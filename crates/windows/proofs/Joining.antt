@@ -65,7 +65,7 @@ later_sorted : (window : Window) (windows : List Window) → Sorted 0 (window �
 unfolding Sorted
 later_sorted window windows sorted = sorted_lower windows (omega arith) sorted.3
 
-module _ (before : List ℤ) (left₀ lefts₀ right₀ rights₀ : ℕ) (joinable : Joinable before left₀ lefts₀ right₀ rights₀) where
+module _ {before : List ℤ} {left₀ lefts₀ right₀ rights₀ : ℕ} (joinable : Joinable before left₀ lefts₀ right₀ rights₀) where
   pub join_begun : JoinSoFar before left₀ lefts₀ right₀ rights₀ before left₀ lefts₀ right₀ rights₀ 0
   join_begun =
       record {
@@ -78,9 +78,9 @@ module _ (before : List ℤ) (left₀ lefts₀ right₀ rights₀ : ℕ) (joinab
         so_far = none_so_far _ _ before;
       }
 
-  module _ (now : List ℤ) (left lefts right rights count : ℕ) (joined : JoinSoFar before left₀ lefts₀ right₀ rights₀ now left lefts right rights count) where
+  module _ {now : List ℤ} {left lefts right rights count : ℕ} (joined : JoinSoFar before left₀ lefts₀ right₀ rights₀ now left lefts right rights count) where
     -- at the end of either list nothing meets, and what is left of the other was copied
-    module _ (after : List ℤ) (later : List Window) (next : ℕ)
+    module _ {after : List ℤ} {later : List Window} {next : ℕ}
         (written : Written (windows_at (at now) 2 count ++ later) (2 + 2 * next) now after next) (next_is : next ≡ lefts₀ + rights₀) where
       ended : join (windows_at (at before) left lefts) (windows_at (at before) right rights) ≡ later → meet (windows_at (at before) left lefts) (windows_at (at before) right rights) ≡ []
           → Joined left₀ lefts₀ right₀ rights₀ before after left 0 right 0
@@ -100,21 +100,21 @@ module _ (before : List ℤ) (left₀ lefts₀ right₀ rights₀ : ℕ) (joinab
             all_joined = λ nothing. rw next_is at (written.windows_are ∙ (rw later-is at joined.so_far.windows_are));
           }
 
-    pub left_ended : lefts ≤ 0 → (after : List ℤ) → Written (windows_at (at now) 2 count ++ windows_at (at now) right rights) (2 + 2 * (count + rights)) now after (count + rights)
+    pub left_ended : lefts ≤ 0 → {after : List ℤ} → Written (windows_at (at now) 2 count ++ windows_at (at now) right rights) (2 + 2 * (count + rights)) now after (count + rights)
         → Joined left₀ lefts₀ right₀ rights₀ before after left 0 right 0
-    left_ended none after written =
+    left_ended none written =
         let right_same : windows_at (at now) right rights ≡ windows_at (at before) right rights =
         windows_same (at now) (at before) right rights (λ place above below. joined.so_far.others_same place (omega arith)) in
-        ended after (windows_at (at now) right rights) (count + rights) written (omega arith)
+        ended written (omega arith)
         (rw (windows_none (at before) left lefts none, right_same) (join_none_left (windows_at (at before) right rights)))
         (rw (windows_none (at before) left lefts none) (meet_none_left (windows_at (at before) right rights)))
 
-    pub right_ended : rights ≤ 0 → (after : List ℤ) → Written (windows_at (at now) 2 count ++ windows_at (at now) left lefts) (2 + 2 * (count + lefts)) now after (count + lefts)
+    pub right_ended : rights ≤ 0 → {after : List ℤ} → Written (windows_at (at now) 2 count ++ windows_at (at now) left lefts) (2 + 2 * (count + lefts)) now after (count + lefts)
         → Joined left₀ lefts₀ right₀ rights₀ before after left 0 right 0
-    right_ended none after written =
+    right_ended none written =
         let left_same : windows_at (at now) left lefts ≡ windows_at (at before) left lefts =
         windows_same (at now) (at before) left lefts (λ place above below. joined.so_far.others_same place (omega arith)) in
-        ended after (windows_at (at now) left lefts) (count + lefts) written (omega arith)
+        ended written (omega arith)
         (rw (windows_none (at before) right rights none, left_same) (join_none_right (windows_at (at before) left lefts)))
         (rw (windows_none (at before) right rights none) (meet_none_right (windows_at (at before) left lefts)))
 
@@ -156,7 +156,7 @@ module _ (before : List ℤ) (left₀ lefts₀ right₀ rights₀ : ℕ) (joinab
           }
 
       -- a turn of the loop: the window that ends before the other begins was copied
-      module _ (after : List ℤ) (long : length after ≡ length now) where
+      module _ {after : List ℤ} (long : length after ≡ length now) where
         pub left_copied : at now (left + 1) < at now right → Written (windows_at (at now) 2 count ++ windows_at (at now) left 1) (2 + 2 * count + 2) now after (count + 1)
             → JoinSoFar before left₀ lefts₀ right₀ rights₀ after (left + 2) (lefts - 1) right rights (count + 1)
         left_copied first written =

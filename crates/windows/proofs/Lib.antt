@@ -2,5 +2,4 @@ pub mod Joining
 pub mod Meeting
 pub mod Reading
 pub mod Sets
-pub mod Words
 pub mod Writing

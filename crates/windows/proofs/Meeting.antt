@@ -47,11 +47,11 @@ pub record MeetSoFar (before : List ℤ) (left₀ lefts₀ right₀ rights₀ : 
   pub few : count + (lefts + rights) ≤ lefts₀ + rights₀
   pub so_far : WrittenSoFar (meet (windows_at (at before) left₀ lefts₀) (windows_at (at before) right₀ rights₀)) (meet (windows_at (at before) left lefts) (windows_at (at before) right rights)) (2 + 2 * (lefts₀ + rights₀)) before now count
 
-module _ (before : List ℤ) (left₀ lefts₀ right₀ rights₀ : ℕ) (placed : Placed (length before) left₀ lefts₀ right₀ rights₀) where
+module _ {before : List ℤ} {left₀ lefts₀ right₀ rights₀ : ℕ} where
   pub meet_begun : MeetSoFar before left₀ lefts₀ right₀ rights₀ before left₀ lefts₀ right₀ rights₀ 0
   meet_begun = record { of_left = all_left left₀ lefts₀; of_right = all_left right₀ rights₀; few = omega arith; so_far = none_so_far _ _ before }
 
-  module _ (now : List ℤ) (left lefts right rights count : ℕ) (met : MeetSoFar before left₀ lefts₀ right₀ rights₀ now left lefts right rights count) where
+  module _ {now : List ℤ} {left lefts right rights count : ℕ} (met : MeetSoFar before left₀ lefts₀ right₀ rights₀ now left lefts right rights count) where
     -- at the end of either list everything is written
     pub left_ended : lefts ≤ 0 → Written (meet (windows_at (at before) left₀ lefts₀) (windows_at (at before) right₀ rights₀)) (2 + 2 * (lefts₀ + rights₀)) before now count
     left_ended ended = all_written (rw (windows_none (at before) left lefts ended, meet_none_left (windows_at (at before) right rights)) at met.so_far)
@@ -60,44 +60,36 @@ module _ (before : List ℤ) (left₀ lefts₀ right₀ rights₀ : ℕ) (placed
     right_ended ended = all_written (rw (windows_none (at before) right rights ended, meet_none_right (windows_at (at before) left lefts)) at met.so_far)
 
     -- a turn of the loop: of the lists' next windows one ends first, and what is in both up to there was written
-    module _ (left-more : 0 < lefts) (right-more : 0 < rights) (after : List ℤ) (high next : ℕ) (long : length after ≡ length now)
-        (written : Written (windows_at (at now) 2 count ++ between (max (at now left) (at now right)) high) (2 + 2 * count + 2) now after next) where
-      next_few : next ≤ count + 1
-      next_few =
-          omega (
-            arith,
-            written.count_is,
-            length-append (windows_at (at now) 2 count) (between (max (at now left) (at now right)) high),
-            windows_length (at now) 2 count,
-            few_between (max (at now left) (at now right)) high,
-          )
-
+    module _ (placed : Placed (length before) left₀ lefts₀ right₀ rights₀) (left-more : 0 < lefts) (right-more : 0 < rights) where
       left_is : windows_at (at before) left lefts ≡ window_at now left ∷ windows_at (at before) (left + 2) (lefts - 1)
       left_is = next_window met.so_far left lefts (omega arith) left-more
 
       right_is : windows_at (at before) right rights ≡ window_at now right ∷ windows_at (at before) (right + 2) (rights - 1)
       right_is = next_window met.so_far right rights (omega arith) right-more
 
-      pub left_done : high ≡ at now (left + 1) → at now (left + 1) < at now (right + 1) → MeetSoFar before left₀ lefts₀ right₀ rights₀ after (left + 2) (lefts - 1) right rights next
-      left_done high_is first =
-          record {
-            of_left = one_passed met.of_left left-more;
-            of_right = met.of_right;
-            few = omega (arith, next_few);
-            so_far =
-                more_written (between (max (at now left) (at now right)) high) met.so_far
-                (rw (left_is, right_is, high_is) (meet_left_ends (window_at now left) (window_at now right) (windows_at (at before) (left + 2) (lefts - 1)) (windows_at (at before) (right + 2) (rights - 1)) first))
-                written long (omega arith);
-          }
+      abbrev more : ℕ → List Window
+      more high = between (max (at now left) (at now right)) high
 
-      pub right_done : high ≡ at now (right + 1) → at now (right + 1) ≤ at now (left + 1) → MeetSoFar before left₀ lefts₀ right₀ rights₀ after left lefts (right + 2) (rights - 1) next
-      right_done high_is first =
-          record {
-            of_left = met.of_left;
-            of_right = one_passed met.of_right right-more;
-            few = omega (arith, next_few);
-            so_far =
-                more_written (between (max (at now left) (at now right)) high) met.so_far
-                (rw (left_is, right_is, high_is) (meet_right_ends (window_at now left) (window_at now right) (windows_at (at before) (left + 2) (lefts - 1)) (windows_at (at before) (right + 2) (rights - 1)) first))
-                written long (omega arith);
-          }
+      module _ {after : List ℤ} (high : ℕ) {next : ℕ} (long : length after ≡ length now) (written : Written (windows_at (at now) 2 count ++ more high) (2 + 2 * count + 2) now after next) where
+        next_few : next ≤ count + 1
+        next_few = omega (arith, written.count_is, length-append (windows_at (at now) 2 count) (more high), windows_length (at now) 2 count, few_between (max (at now left) (at now right)) high)
+
+        pub left_done : high ≡ at now (left + 1) → at now (left + 1) < at now (right + 1) → MeetSoFar before left₀ lefts₀ right₀ rights₀ after (left + 2) (lefts - 1) right rights next
+        left_done high_is first =
+            let split = meet_left_ends (window_at now left) (window_at now right) (windows_at (at before) (left + 2) (lefts - 1)) (windows_at (at before) (right + 2) (rights - 1)) first in
+            record {
+              of_left = one_passed met.of_left left-more;
+              of_right = met.of_right;
+              few = omega (arith, next_few);
+              so_far = more_written (more high) met.so_far (rw (left_is, right_is, high_is) split) written long (omega arith);
+            }
+
+        pub right_done : high ≡ at now (right + 1) → at now (right + 1) ≤ at now (left + 1) → MeetSoFar before left₀ lefts₀ right₀ rights₀ after left lefts (right + 2) (rights - 1) next
+        right_done high_is first =
+            let split = meet_right_ends (window_at now left) (window_at now right) (windows_at (at before) (left + 2) (lefts - 1)) (windows_at (at before) (right + 2) (rights - 1)) first in
+            record {
+              of_left = met.of_left;
+              of_right = one_passed met.of_right right-more;
+              few = omega (arith, next_few);
+              so_far = more_written (more high) met.so_far (rw (left_is, right_is, high_is) split) written long (omega arith);
+            }

@@ -70,10 +70,6 @@ pub none_so_far : (all : List Window) (end : ℕ) (before : List ℤ) → Writte
 unfolding windows_at
 none_so_far all end before = record { same_length = refl; windows_are = refl; header_same = λ place below. refl; others_same = λ place above. refl }
 
--- windows that stood there before, and those that follow
-pub some_so_far : (later : List Window) (end : ℕ) (before : List ℤ) (count : ℕ) → WrittenSoFar (windows_at (at before) 2 count ++ later) later end before before count
-some_so_far later end before count = record { same_length = refl; windows_are = refl; header_same = λ place below. refl; others_same = λ place above. refl }
-
 -- some of those to come were written behind
 pub more_written : {all to-come later : List Window} {end count next : ℕ} {before now after : List ℤ} (more : List Window) → WrittenSoFar all to-come end before now count → to-come ≡ more ++ later
     → Written (windows_at (at now) 2 count ++ more) (2 + 2 * count + 2) now after next → length after ≡ length now → 2 + 2 * count + 2 ≤ end → WrittenSoFar all later end before after next

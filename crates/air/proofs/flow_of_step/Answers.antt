@@ -1,9 +1,8 @@
 -- `air::flow_of_step` meets its contract: the rule of the table is one test, computed at each of its 401 entries.
-use mathlib.Core.Path.{refl}
 use mathlib.Core.List.{List}
 use Prim.Native.Nat.{ℕ}
 use native.Mathlib.Omega.{arith}
-use borrow.Author.Tests.{lt-ltb, le-ltb}
+use borrow.Author.Tests.{le-ltb}
 use lib.Dec.{T}
 use lib.ListN.{length, get_or}
 use mathlib.Core.Path.{◌≡◌}
@@ -17,9 +16,6 @@ use Rattle.air.proofs.flow_of_step.Goals as goal
 -- a table of 401 entries at all of which the test passes has the flow of each step
 flow_there : (table : List ℕ) → T (passes is_flow 0 table) → length table ≡ 401 → (step : ℕ) → step ≤ 400 → get_or table step 0 ≡ flow_of step
 flow_there table passed long step within = each_flow table passed step (omega (arith, long))
-
-pub returns-then-step-gt400 : goal.returns-then-step-gt400
-returns-then-step-gt400 c = record { refusal_is = rw (lt-ltb 400 c.args.step c.if-step-gt400.true); flow_is = refl }
 
 pub returns : goal.returns
 returns c = record { refusal_is = rw (le-ltb 400 c.args.step c.if-step-gt400.false); flow_is = search (rules, flow_there) }

@@ -1,4 +1,4 @@
-use mathlib.Core.Path.{refl, sym, ap, ◌∙◌}
+use mathlib.Core.Path.{sym, ap, ◌∙◌}
 use mathlib.Core.List.{List}
 use Prim.Native.Nat.{ℕ}
 use native.Mathlib.Omega.{arith}
@@ -11,24 +11,13 @@ use Rattle.bands.proofs.are_same.Goals as goal
 pub returns-then-bands-others : goal.returns-then-bands-others
 returns-then-bands-others c = sym (differ c.args.bands.now c.args.others.now (λ equal. c.if-bands-others.true (ap (λ (l : List ℕ). length l) equal)))
 
-pub loop-slot-init : goal.loop-slot-init
-loop-slot-init c = (omega arith, refl)
-
 pub returns-then-bands-slot : goal.returns-then-bands-slot
 returns-then-bands-slot c =
-    let in-loop = c in
-    let loop = in-loop.loop-slot in
-    let args = in-loop.args in
-    rw (loop.invariant.1, same_from args.bands.now args.others.now loop.slot (omega arith) (omega arith), ne_eqb _ _ c.if-bands-slot.true)
+    rw (c.loop-slot.invariant, same_from c.args.bands.now c.args.others.now c.loop-slot.slot (omega arith) (omega arith), ne_eqb _ _ c.if-bands-slot.true)
 
 pub loop-slot-preserved : goal.loop-slot-preserved
 loop-slot-preserved c =
-    let in-loop = c in
-    let loop = in-loop.loop-slot in
-    let args = in-loop.args in (
-      omega arith,
-      loop.invariant.1 ∙ rw (same_from args.bands.now args.others.now loop.slot (omega arith) (omega arith), eq-eqb _ _ c.if-bands-slot.false),
-    )
+    c.loop-slot.invariant ∙ rw (same_from c.args.bands.now c.args.others.now c.loop-slot.slot (omega arith) (omega arith), eq-eqb _ _ c.if-bands-slot.false)
 
 pub returns : goal.returns
 unfolding same_bands
@@ -36,7 +25,7 @@ returns c =
     let loop = c.loop-slot in
     let args = c.args in
     rw (
-      loop.invariant.1,
+      loop.invariant,
       drop_of_length-le args.bands.now {i = loop.slot} (omega arith),
       drop_of_length-le args.others.now {i = loop.slot} (omega arith),
     )

@@ -11,12 +11,6 @@ use Rattle.bands.proofs.fill.Goals as goal
 pub loop-slot-init : goal.loop-slot-init
 loop-slot-init c = none_laid (slot_bands (length c.args.bands.now) c.args.common []) c.args.bands.now
 
-pub offset_bounds-bands-slot : goal.offset_bounds-bands-slot
-offset_bounds-bands-slot c = omega (arith, c.loop-slot.invariant.same_length, c.well_formed)
-
-pub overflow_add-slot : goal.overflow_add-slot
-overflow_add-slot c = omega (arith, c.loop-slot.invariant.same_length, c.well_formed)
-
 pub loop-slot-preserved : goal.loop-slot-preserved
 unfolding band_at
 loop-slot-preserved c =

@@ -1,6 +1,5 @@
 -- `bands::fill` meets its contract. The invariant: the common band is laid over the slots before `slot`.
 use mathlib.Core.List.{[]}
-use Prim.Native.Nat.{◌-◌}
 use lib.ListN.{length}
 use Rattle.limits.proofs.Laying.{LaidSoFar}
 use Rattle.bands.specs.Bands.{slot_bands}
@@ -8,6 +7,3 @@ use Rattle.bands.proofs.fill.Given as goal
 
 abbrev pub invariant-loop-slot : goal.invariant-loop-slot
 invariant-loop-slot l = LaidSoFar (slot_bands (length l.initial.bands) l.common []) l.initial.bands l.bands l.slot
-
-abbrev pub decreases-loop-slot : goal.decreases-loop-slot
-decreases-loop-slot l = length l.initial.bands - l.slot

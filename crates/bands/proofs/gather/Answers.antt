@@ -1,18 +1,15 @@
-use mathlib.Core.Path.{◌≡◌, refl, sym, ap, ◌∙◌}
+use mathlib.Core.Path.{◌≡◌, sym, ap, ◌∙◌}
 use mathlib.Core.List.{List, ◌∷◌, map}
-use Prim.Native.Nat.{ℕ, suc, ◌+◌, ◌*◌, ◌<◌}
+use Prim.Native.Nat.{ℕ, suc, ◌+◌, ◌<◌}
 use native.Mathlib.Numerals.{add-one}
 use native.Mathlib.Omega.{arith}
 use lib.ListN.{length, get_or, drop, set, length-drop, length-map, get_or-map}
 use lib.Seq.{drop-cons}
-use mir.Syntax.{w64}
-use mir.Val.{Fits}
-use Rattle.limits.proofs.Laying.{none_laid, one_more_laid, all_laid}
+use Rattle.limits.proofs.Laying.{one_more_laid, all_laid}
 use Rattle.bands.specs.declared.SpecialSlot.{SpecialSlot}
 use Rattle.bands.specs.Bands.{slot_numbers_of, own_bands_of, specials_among}
 use Rattle.bands.specs.Inner.{Room}
 use Rattle.bands.proofs.Among.{among_from, special_here, common_here, none_left}
-use Rattle.bands.proofs.Bands.{few_among}
 use Rattle.bands.proofs.gather.Goals as goal
 use Rattle.bands.proofs.gather.Goals.{then-band-common, else-band-common}
 use Rattle.bands.proofs.gather.Invariants.{GatheredSoFar}
@@ -47,7 +44,6 @@ module _ {common : ℕ} {bands specials₀ own₀ specials own : List ℕ} {gath
       let slots-long = length-map all (λ (special : SpecialSlot). special.slot) in
       let bands_long = length-map all (λ (special : SpecialSlot). special.band) in
       record {
-        inside = omega arith;
         slots_laid =
             rw (number_there all gathered next (λ special. special.slot)) at
             (one_more_laid (slot_numbers_of all) specials₀ specials gathered slot (omega (arith, room.for_slots)) so_far.slots_laid (omega arith));
@@ -59,84 +55,16 @@ module _ {common : ℕ} {bands specials₀ own₀ specials own : List ℕ} {gath
 
   none_gathered : get_or bands slot 0 ≡ common → GatheredSoFar common bands specials₀ own₀ specials own gathered (slot + 1)
   none_gathered same = record {
-    inside = omega arith;
     slots_laid = so_far.slots_laid;
     bands_laid = so_far.bands_laid;
     left = so_far.left ∙ common_here common bands slot more same;
   }
 
-pub loop-slot-init : goal.loop-slot-init
-loop-slot-init c =
-    let all = specials_among c.args.common c.args.bands.now in
-    record {
-      inside = omega arith;
-      slots_laid = none_laid (slot_numbers_of all) c.args.specials.now;
-      bands_laid = none_laid (own_bands_of all) c.args.own.now;
-      left = refl;
-    }
-
-pub overflow_cast-specials : goal.overflow_cast-specials
-overflow_cast-specials c = omega (arith, c.loop-slot-test.true, c.requires.few_slots)
-
-pub offset_bounds-specials-gathered : goal.offset_bounds-specials-gathered
-offset_bounds-specials-gathered c =
-    let few_gathered : Fits w64 (c.loop-slot.gathered * 2) = let in-loop = c in
-    let start = in-loop.before.before in
-    omega (
-      arith,
-      next_inside in-loop.loop-slot.invariant in-loop.loop-slot-test.true c.if-band-common.true,
-      few_among start.args.common start.args.bands.now,
-      start.requires.few_slots,
-    ) in
-    few_gathered
-
 pub bounds-specials-gathered : goal.bounds-specials-gathered
-bounds-specials-gathered c =
-    let room_there : let loop = c.loop-slot in (loop.gathered < length loop.specials) × (loop.gathered < length loop.own) = let in-loop = c in
-    let so_far = in-loop.loop-slot.invariant in
-    let inside = next_inside so_far in-loop.loop-slot-test.true c.if-band-common.true in
-    let room = in-loop.requires in
-    (omega (arith, so_far.slots_laid.same_length, room.for_slots), omega (arith, so_far.bands_laid.same_length, room.for_bands)) in
-    (room_there).0
-
-pub offset_bounds-own-gathered : goal.offset_bounds-own-gathered
-offset_bounds-own-gathered c =
-    let few_gathered : Fits w64 (c.loop-slot.gathered * 2) = let in-loop = c in
-    let start = in-loop.before.before in
-    omega (
-      arith,
-      next_inside in-loop.loop-slot.invariant in-loop.loop-slot-test.true c.if-band-common.true,
-      few_among start.args.common start.args.bands.now,
-      start.requires.few_slots,
-    ) in
-    few_gathered
+bounds-specials-gathered c = omega (arith, next_inside c.loop-slot.invariant c.loop-slot-test.true c.if-band-common.true, c.loop-slot.invariant.slots_laid.same_length, c.requires.for_slots)
 
 pub bounds-own-gathered : goal.bounds-own-gathered
-bounds-own-gathered c =
-    let room_there : let loop = c.loop-slot in (loop.gathered < length loop.specials) × (loop.gathered < length loop.own) = let in-loop = c in
-    let so_far = in-loop.loop-slot.invariant in
-    let inside = next_inside so_far in-loop.loop-slot-test.true c.if-band-common.true in
-    let room = in-loop.requires in
-    (omega (arith, so_far.slots_laid.same_length, room.for_slots), omega (arith, so_far.bands_laid.same_length, room.for_bands)) in
-    (room_there).1
-
-pub overflow_add-gathered : goal.overflow_add-gathered
-overflow_add-gathered c =
-    let few_gathered : Fits w64 (c.loop-slot.gathered * 2) = let in-loop = c in
-    let start = in-loop.before.before in
-    omega (
-      arith,
-      next_inside in-loop.loop-slot.invariant in-loop.loop-slot-test.true c.if-band-common.true,
-      few_among start.args.common start.args.bands.now,
-      start.requires.few_slots,
-    ) in
-    omega (arith, few_gathered)
-
-pub overflow_add-slot : goal.overflow_add-slot
-overflow_add-slot c = omega (arith, c.loop-slot-test.true, c.requires.few_slots)
-
-pub loop-slot-smaller : goal.loop-slot-smaller
-loop-slot-smaller c = omega (arith, c.loop-slot-test.true)
+bounds-own-gathered c = omega (arith, next_inside c.loop-slot.invariant c.loop-slot-test.true c.if-band-common.true, c.loop-slot.invariant.bands_laid.same_length, c.requires.for_bands)
 
 pub loop-slot-preserved : goal.loop-slot-preserved
 loop-slot-preserved c =

@@ -1,12 +1,14 @@
 use mathlib.Core.Path.{◌≡◌, refl}
+use mathlib.Core.Bool.{Bool, true, false}
 use mathlib.Core.List.{List}
-use Prim.Native.Nat.{ℕ, zero, suc, ◌+◌, ◌≤◌, ◌<◌}
+use Prim.Native.Nat.{ℕ, zero, suc, ◌+◌, ◌≤◌, ◌<◌, min}
 use native.Mathlib.Omega.{arith}
+use lib.Dec.{ltb}
 use lib.ListN.{length, get_or}
 use borrow.Author.Count.{below_more}
+use borrow.Author.Tests.{ltb-true, ltb-false}
 use Rattle.bands.specs.Inner.{Least}
 use Rattle.bands.proofs.least.Goals as goal
-use Rattle.bands.proofs.least.Goals.{then-band-least, else-band-least}
 
 first_alone : (bands : List ℕ) → Least bands 1 (get_or bands 0 0)
 first_alone bands = record { none_less = of_first; slot = 0; within = omega arith; is_its_band = refl }
@@ -15,38 +17,30 @@ first_alone bands = record { none_less = of_first; slot = 0; within = omega arit
     of_first zero first = omega arith
     of_first (suc slot) first = absurd (omega arith)
 
-module _ {bands : List ℕ} {slot least : ℕ} (so_far : Least bands slot least) where
-  one_less : get_or bands slot 0 < least → Least bands (slot + 1) (get_or bands slot 0)
-  one_less less = record {
-    none_less = below_more _ slot (λ k before. omega (arith, so_far.none_less k before)) (omega arith);
-    slot = slot;
-    within = omega arith;
-    is_its_band = refl;
-  }
-
-  none_lesser : least ≤ get_or bands slot 0 → Least bands (slot + 1) least
-  none_lesser not-less = record {
-    none_less = below_more _ slot so_far.none_less not-less;
-    slot = so_far.slot;
-    within = omega (arith, so_far.within);
-    is_its_band = so_far.is_its_band;
-  }
+one_more : {bands : List ℕ} {slot least : ℕ} → Least bands slot least → Least bands (slot + 1) (min least (get_or bands slot 0))
+one_more {bands} {slot} {least} so_far = split (ltb (get_or bands slot 0) least) refl
+  where
+    split : (less : Bool) → ltb (get_or bands slot 0) least ≡ less → Least bands (slot + 1) (min least (get_or bands slot 0))
+    split true is = record {
+      none_less = below_more _ slot (λ k before. omega (arith, so_far.none_less k before)) (omega arith);
+      slot = slot;
+      within = omega arith;
+      is_its_band = omega (arith, ltb-true (get_or bands slot 0) least is);
+    }
+    split false is = record {
+      none_less = below_more _ slot (λ k before. omega (arith, so_far.none_less k before)) (omega arith);
+      slot = so_far.slot;
+      within = omega (arith, so_far.within);
+      is_its_band = omega (arith, so_far.is_its_band, ltb-false (get_or bands slot 0) least is);
+    }
 
 pub loop-slot-init : goal.loop-slot-init
-loop-slot-init c = (omega arith, first_alone c.args.bands.now)
+loop-slot-init c = first_alone c.args.bands.now
 
 pub loop-slot-preserved : goal.loop-slot-preserved
-loop-slot-preserved c =
-    let so_far = c.loop-slot.invariant.1 in (
-      omega arith,
-      elim c.if-band-least.branch [
-        | then-band-least less ↦ rw less.least-is (one_less so_far less.if-band-least.true)
-        | else-band-least same ↦ rw same.least-is (none_lesser so_far same.if-band-least.false)
-      ],
-    )
+loop-slot-preserved c = rw c.min-least.ensures (one_more c.loop-slot.invariant)
 
 pub returns : goal.returns
 returns c =
-    let loop = c.loop-slot in
-    let all : loop.slot ≡ length c.args.bands.now = omega arith in
-    rw all at loop.invariant.1
+    let all : c.loop-slot.slot ≡ length c.args.bands.now = omega arith in
+    rw all at c.loop-slot.invariant

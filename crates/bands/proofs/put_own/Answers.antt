@@ -22,7 +22,6 @@ module _ {specials own before now : List ℕ} {i : ℕ} (so_far : PutSoFar speci
   one_more_put : PutSoFar specials own before (set now (get_or specials i 0) (get_or own i 0)) (i + 1)
   one_more_put = rw (add-one i) (record {
     common = so_far.common;
-    within = more;
     same_length = simp length-set so_far.same_length;
     right = right_sooner (onwards specials own (suc i)) (rest_right next_right) 0 (omega arith);
     left = λ slot.
@@ -34,32 +33,16 @@ module _ {specials own before now : List ℕ} {i : ℕ} (so_far : PutSoFar speci
 pub loop-i-init : goal.loop-i-init
 loop-i-init c = record {
   common = c.requires.common;
-  within = omega arith;
   same_length = refl;
   right = record { passes = c.requires.right.passes };
   left = λ slot. refl;
 }
 
-pub offset_bounds-own-i : goal.offset_bounds-own-i
-offset_bounds-own-i c = omega (arith, c.requires.right.same_length, c.well_formed)
-
-pub bounds-own-i : goal.bounds-own-i
-bounds-own-i c = omega (arith, c.requires.right.same_length)
-
-pub offset_bounds-bands-slot : goal.offset_bounds-bands-slot
-offset_bounds-bands-slot c =
-    let slot_inside : get_or c.args.specials.now c.loop-i.i 0 < length c.loop-i.bands = next_inside c.loop-i.invariant c.requires.right.same_length c.loop-i-test.true in
-    omega (arith, slot_inside, c.loop-i.invariant.same_length, c.well_formed)
-
-pub bounds-bands-slot : goal.bounds-bands-slot
-bounds-bands-slot c =
-    let slot_inside : get_or c.args.specials.now c.loop-i.i 0 < length c.loop-i.bands = next_inside c.loop-i.invariant c.requires.right.same_length c.loop-i-test.true in
-    omega (arith, slot_inside)
+pub bounds-bands-from : goal.bounds-bands-from
+bounds-bands-from c = rw c.from.ensures (next_inside c.loop-i.invariant c.requires.right.same_length c.loop-i-test.true)
 
 pub loop-i-preserved : goal.loop-i-preserved
-loop-i-preserved c =
-    let in-loop = c in
-    one_more_put in-loop.loop-i.invariant in-loop.requires.right.same_length in-loop.loop-i-test.true
+loop-i-preserved c = rw c.from.ensures (one_more_put c.loop-i.invariant c.requires.right.same_length c.loop-i-test.true)
 
 pub returns : goal.returns
 unfolding special_slots band_at

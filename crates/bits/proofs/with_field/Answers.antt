@@ -1,15 +1,6 @@
 -- `bits::with_field` meets its contract: no shift loses a bit, since the number stays below 2^24.
-use lib.Pow.{pow_pos}
-use Rattle.bits.proofs.Shifts.{upper_fits, after_shifted, with_field_shifted, with_field_fits}
+use Rattle.bits.proofs.Shifts.{with_field_shifted, with_field_fits}
 use Rattle.bits.proofs.with_field.Goals as goal
-
-pub overflow_add-result : goal.overflow_add-result
-overflow_add-result c = upper_fits c.args.word c.args.width c.args.after c.args.number c.requires
-
-pub nonzero_rem-result : goal.nonzero_rem-result
-nonzero_rem-result c =
-    let a = c.args in
-    rw (after_shifted a.word a.width a.after a.number c.requires) (pow_pos a.after)
 
 pub overflow_add-result-2 : goal.overflow_add-result-2
 overflow_add-result-2 c = with_field_fits c.args.word c.args.width c.args.after c.args.number c.requires

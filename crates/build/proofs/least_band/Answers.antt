@@ -1,39 +1,26 @@
 -- `build::least_band` meets its contract.
-use mathlib.Core.Path.{◌≡◌, refl, sym, ◌∙◌}
-use native.Mathlib.Omega.{arith}
-use lib.ListN.{length}
+use Rattle.std.proofs.Common.{◌≡◌, refl, Err, length, arith, rules}
 use mir.Facts.{to_z-of_z}
+use Rattle.refusals.specs.Rows.{row}
+use Rattle.refusals.proofs.Rows.{row_counts}
 use Rattle.build.specs.LeastBand.{least_band_refusal}
 use Rattle.build.proofs.Accepted.{findable}
 use Rattle.build.proofs.least_band.Goals as goal
 
-pub returns-then-refused-gt0 : goal.returns-then-refused-gt0
-returns-then-refused-gt0 c =
-    let refusal_is : let args = c.args in c.refuse_least_band-refused.result ≡ least_band_refusal args.setpoints.now args.rest args.budget (length args.scratch.now) = rw (to_z-of_z c.ranges.rest) at c.refuse_least_band-refused.ensures in
-    record {
-      refusal_is = refusal_is;
-      least = λ none. absurd (omega arith);
-      none_refused = λ some. refl;
+pub returns-in_err-refuse_least_band : goal.returns-in_err-refuse_least_band
+returns-in_err-refuse_least_band c =
+    let a = c.args in
+    let refusal = c.in_err-refuse_least_band.field-0.0 in
+    let is : row refusal ≡ least_band_refusal a.setpoints.now a.rest a.budget (length a.scratch.now) = search rules in
+    let returned : c.from_residual.result ≡ Err refusal = search rules in
+    rw returned record {
+      refusal_is = is;
+      least = λ none. absurd (omega (arith, row_counts refusal));
       scratch_refused = λ some. refl;
     }
 
 pub least_band_of-requires : goal.least_band_of-requires
 least_band_of-requires c =
-    let refusal_is : let args = c.args in c.refuse_least_band-refused.result ≡ least_band_refusal args.setpoints.now args.rest args.budget (length args.scratch.now) = rw (to_z-of_z c.ranges.rest) at c.refuse_least_band-refused.ensures in
-    let not_refused : let args = c.args in least_band_refusal args.setpoints.now args.rest args.budget (length args.scratch.now) ≡ 0 = let none : c.refuse_least_band-refused.result ≡ 0 = omega arith in
-    sym (refusal_is) ∙ none in
-    let start = c in
-    let args = start.args in
-    rw (to_z-of_z start.ranges.rest) (findable args.setpoints.now args.rest args.budget args.scratch.now (not_refused))
-
-pub returns : goal.returns
-returns c =
-    let refusal_is : let args = c.args in c.refuse_least_band-refused.result ≡ least_band_refusal args.setpoints.now args.rest args.budget (length args.scratch.now) = rw (to_z-of_z c.ranges.rest) at c.refuse_least_band-refused.ensures in
-    let not_refused : let args = c.args in least_band_refusal args.setpoints.now args.rest args.budget (length args.scratch.now) ≡ 0 = let none : c.refuse_least_band-refused.result ≡ 0 = omega arith in
-    sym (refusal_is) ∙ none in
-    record {
-      refusal_is = sym (not_refused);
-      least = λ none. rw (to_z-of_z c.ranges.rest) at c.least_band_of.ensures;
-      none_refused = λ some. absurd (omega arith);
-      scratch_refused = λ some. absurd (omega arith);
-    }
+    let a = c.args in
+    let none : least_band_refusal a.setpoints.now a.rest a.budget (length a.scratch.now) ≡ 0 = search rules in
+    rw (to_z-of_z c.ranges.rest) (findable a.setpoints.now a.rest a.budget a.scratch.now none)

@@ -1,79 +1,71 @@
 -- `offers::judge_offer` meets its contract: each way out is a case of `Candidates`.
-use mathlib.Core.Path.{◌≡◌, sym, ◌∙◌}
-use lib.ListN.{length}
+use Rattle.std.proofs.Common.{◌≡◌, true, false, length, sym, ◌∙◌, rules, to_z-of_z, w32, SFits, Ok, None, is_ok}
 use lib.Seq.{length-take-le}
-use mir.Syntax.{w32}
-use mir.Val.{SFits}
-use mir.Facts.{to_z-of_z}
 use Rattle.bands.specs.Bands.{same_bands}
 use Rattle.record.specs.Record.{bands_in}
 use Rattle.record_read.proofs.Accepted as Accepted
 use Rattle.offers.specs.Inner.{header_is_for}
 use Rattle.offers.proofs.Candidates as Candidates
-use borrow.Author.Rules.{rules}
 use Rattle.offers.proofs.judge_offer.Goals as goal
 
-pub returns-then-header-gt0 : goal.returns-then-header-gt0
-returns-then-header-gt0 c =
+pub returns-then-not-is_for : goal.returns-then-not-is_for
+returns-then-not-is_for c =
     let args = c.args in
-    Candidates.refused args.setpoints.now args.numbers.rest args.numbers.band args.bands.now c.read_into_room-header.ensures c.if-header-gt0.true
+    let right : c.read_into_room.result ≡ Ok c.in_ok-header.header = search rules in
+    let other : header_is_for c.in_ok-header.header (length args.setpoints.now) args.numbers.rest args.numbers.band ≡ false = search rules in
+    Candidates.for_another args.setpoints.now args.numbers.rest args.numbers.band args.bands.now c.read_into_room.ensures right other
 
 pub slice_bounds-own-end : goal.slice_bounds-own-end
-slice_bounds-own-end c = Accepted.in_bands c.read_into_room-header.ensures c.if-header-gt0.false
+slice_bounds-own-end c =
+    let right : c.read_into_room.result ≡ Ok c.in_ok-header.header = search rules in
+    Accepted.in_bands c.read_into_room.ensures right
 
 pub slice_bounds-have_same_bands-end : goal.slice_bounds-have_same_bands-end
-slice_bounds-have_same_bands-end c = sym (length-take-le _ _ (Accepted.in_bands c.read_into_room-header.ensures c.if-header-gt0.false))
+slice_bounds-have_same_bands-end c =
+    let right : c.read_into_room.result ≡ Ok c.in_ok-header.header = search rules in
+    sym (length-take-le _ _ (Accepted.in_bands c.read_into_room.ensures right))
 
 pub have_same_bands-requires : goal.have_same_bands-requires
 have_same_bands-requires c =
-    let rest_fits : SFits w32 c.args.numbers.rest = search rules in
-    let band_fits : SFits w32 c.args.numbers.band = search rules in
-    let of_header : let args = c.args in c.is_for.result ≡ header_is_for c.read_into_room-header.result (length args.setpoints.now) args.numbers.rest args.numbers.band = rw (to_z-of_z (rest_fits), to_z-of_z (band_fits)) at c.is_for.ensures in
     let args = c.args in
-    rw (Candidates.room_bands args.setpoints.now args.numbers.rest args.numbers.band args.bands.now c.read_into_room-header.ensures c.if-header-gt0.false (sym (of_header) ∙ c.if-is_for.true)) (Candidates.same_common args.setpoints.now args.numbers.rest args.numbers.band args.bands.now c.read_into_room-header.ensures c.if-header-gt0.false (sym (of_header) ∙ c.if-is_for.true) c.requires)
+    let right : c.read_into_room.result ≡ Ok c.in_ok-header.header = search rules in
+    let own : header_is_for c.in_ok-header.header (length args.setpoints.now) args.numbers.rest args.numbers.band ≡ true = search rules in
+    rw (Candidates.room_bands args.setpoints.now args.numbers.rest args.numbers.band args.bands.now c.read_into_room.ensures right own)
+    (Candidates.same_common args.setpoints.now args.numbers.rest args.numbers.band args.bands.now c.read_into_room.ensures right own c.requires)
 
-pub judge_record-verdict-requires : goal.judge_record-verdict-requires
-judge_record-verdict-requires c =
-    let rest_fits : SFits w32 c.args.numbers.rest = search rules in
-    let band_fits : SFits w32 c.args.numbers.band = search rules in
-    let of_header : let args = c.args in c.is_for.result ≡ header_is_for c.read_into_room-header.result (length args.setpoints.now) args.numbers.rest args.numbers.band = rw (to_z-of_z (rest_fits), to_z-of_z (band_fits)) at c.is_for.ensures in
+pub returns-then-not-have_same_bands : goal.returns-then-not-have_same_bands
+returns-then-not-have_same_bands c =
     let args = c.args in
-    Candidates.judgeable args.setpoints.now args.numbers.rest args.numbers.band args.bands.now c.read_into_room-header.ensures c.if-header-gt0.false (sym (of_header) ∙ c.if-is_for.true) c.requires
+    let right : c.read_into_room.result ≡ Ok c.in_ok-header.header = search rules in
+    let own : header_is_for c.in_ok-header.header (length args.setpoints.now) args.numbers.rest args.numbers.band ≡ true = search rules in
+    let room = Candidates.room_bands args.setpoints.now args.numbers.rest args.numbers.band args.bands.now c.read_into_room.ensures right own in
+    let bands = rw room at c.have_same_bands.ensures in
+    Candidates.other_bands args.setpoints.now args.numbers.rest args.numbers.band args.bands.now c.read_into_room.ensures right own (sym bands ∙ c.if-not-have_same_bands.true)
 
-pub returns-then-verdict : goal.returns-then-verdict
-returns-then-verdict c =
-    let rest_fits : SFits w32 c.args.numbers.rest = search rules in
-    let band_fits : SFits w32 c.args.numbers.band = search rules in
-    let of_header : let args = c.args in c.is_for.result ≡ header_is_for c.read_into_room-header.result (length args.setpoints.now) args.numbers.rest args.numbers.band = rw (to_z-of_z (rest_fits), to_z-of_z (band_fits)) at c.is_for.ensures in
-    let own_bands : let args = c.args in c.have_same_bands.result ≡ same_bands (bands_in args.bytes.now) args.bands.now = let args = c.args in
-    rw (Candidates.room_bands args.setpoints.now args.numbers.rest args.numbers.band args.bands.now c.read_into_room-header.ensures c.if-header-gt0.false (sym (of_header) ∙ c.if-is_for.true)) at c.have_same_bands.ensures in
+pub judge_record-requires : goal.judge_record-requires
+judge_record-requires c =
     let args = c.args in
-    Candidates.candidate args.setpoints.now args.numbers.rest args.numbers.band args.bands.now c.read_into_room-header.ensures c.if-header-gt0.false (sym (of_header) ∙ c.if-is_for.true) (sym (own_bands) ∙ c.if-have_same_bands.true) _ c.judge_record-verdict.ensures c.if-verdict.true
+    let right : c.read_into_room.result ≡ Ok c.in_ok-header.header = search rules in
+    let own : header_is_for c.in_ok-header.header (length args.setpoints.now) args.numbers.rest args.numbers.band ≡ true = search rules in
+    Candidates.judgeable args.setpoints.now args.numbers.rest args.numbers.band args.bands.now c.read_into_room.ensures right own c.requires
 
-pub returns-else-verdict : goal.returns-else-verdict
-returns-else-verdict c =
-    let rest_fits : SFits w32 c.args.numbers.rest = search rules in
-    let band_fits : SFits w32 c.args.numbers.band = search rules in
-    let of_header : let args = c.args in c.is_for.result ≡ header_is_for c.read_into_room-header.result (length args.setpoints.now) args.numbers.rest args.numbers.band = rw (to_z-of_z (rest_fits), to_z-of_z (band_fits)) at c.is_for.ensures in
-    let own_bands : let args = c.args in c.have_same_bands.result ≡ same_bands (bands_in args.bytes.now) args.bands.now = let args = c.args in
-    rw (Candidates.room_bands args.setpoints.now args.numbers.rest args.numbers.band args.bands.now c.read_into_room-header.ensures c.if-header-gt0.false (sym (of_header) ∙ c.if-is_for.true)) at c.have_same_bands.ensures in
+pub returns-in_err-kept : goal.returns-in_err-kept
+returns-in_err-kept c =
     let args = c.args in
-    Candidates.not_kept args.setpoints.now args.numbers.rest args.numbers.band args.bands.now c.read_into_room-header.ensures c.if-header-gt0.false (sym (of_header) ∙ c.if-is_for.true) (sym (own_bands) ∙ c.if-have_same_bands.true) _ c.judge_record-verdict.ensures c.if-verdict.false
+    let right : c.read_into_room.result ≡ Ok c.in_ok-header.header = search rules in
+    let own : header_is_for c.in_ok-header.header (length args.setpoints.now) args.numbers.rest args.numbers.band ≡ true = search rules in
+    let room = Candidates.room_bands args.setpoints.now args.numbers.rest args.numbers.band args.bands.now c.read_into_room.ensures right own in
+    let bands = rw room at c.have_same_bands.ensures in
+    let is : c.from_residual-in_err-kept.result ≡ None = search rules in
+    let fails : is_ok c.judge_record.result ≡ false = search rules in
+    rw is (Candidates.not_kept args.setpoints.now args.numbers.rest args.numbers.band args.bands.now c.read_into_room.ensures right own (sym bands ∙ c.if-not-have_same_bands.false) c.judge_record.ensures fails)
 
-pub returns-else-have_same_bands : goal.returns-else-have_same_bands
-returns-else-have_same_bands c =
-    let rest_fits : SFits w32 c.args.numbers.rest = search rules in
-    let band_fits : SFits w32 c.args.numbers.band = search rules in
-    let of_header : let args = c.args in c.is_for.result ≡ header_is_for c.read_into_room-header.result (length args.setpoints.now) args.numbers.rest args.numbers.band = rw (to_z-of_z (rest_fits), to_z-of_z (band_fits)) at c.is_for.ensures in
-    let own_bands : let args = c.args in c.have_same_bands.result ≡ same_bands (bands_in args.bytes.now) args.bands.now = let args = c.args in
-    rw (Candidates.room_bands args.setpoints.now args.numbers.rest args.numbers.band args.bands.now c.read_into_room-header.ensures c.if-header-gt0.false (sym (of_header) ∙ c.if-is_for.true)) at c.have_same_bands.ensures in
+pub returns : goal.returns
+returns c =
     let args = c.args in
-    Candidates.other_bands args.setpoints.now args.numbers.rest args.numbers.band args.bands.now c.read_into_room-header.ensures c.if-header-gt0.false (sym (of_header) ∙ c.if-is_for.true) (sym (own_bands) ∙ c.if-have_same_bands.false)
-
-pub returns-else-is_for : goal.returns-else-is_for
-returns-else-is_for c =
-    let rest_fits : SFits w32 c.args.numbers.rest = search rules in
-    let band_fits : SFits w32 c.args.numbers.band = search rules in
-    let of_header : let args = c.args in c.is_for.result ≡ header_is_for c.read_into_room-header.result (length args.setpoints.now) args.numbers.rest args.numbers.band = rw (to_z-of_z (rest_fits), to_z-of_z (band_fits)) at c.is_for.ensures in
-    let args = c.args in
-    Candidates.for_another args.setpoints.now args.numbers.rest args.numbers.band args.bands.now c.read_into_room-header.ensures c.if-header-gt0.false (sym (of_header) ∙ c.if-is_for.false)
+    let right : c.read_into_room.result ≡ Ok c.in_ok-header.header = search rules in
+    let own : header_is_for c.in_ok-header.header (length args.setpoints.now) args.numbers.rest args.numbers.band ≡ true = search rules in
+    let room = Candidates.room_bands args.setpoints.now args.numbers.rest args.numbers.band args.bands.now c.read_into_room.ensures right own in
+    let bands = rw room at c.have_same_bands.ensures in
+    let kept : c.judge_record.result ≡ Ok c.in_ok-kept.kept = search rules in
+    Candidates.candidate args.setpoints.now args.numbers.rest args.numbers.band args.bands.now c.read_into_room.ensures right own (sym bands ∙ c.if-not-have_same_bands.false) c.judge_record.ensures kept

@@ -1,10 +1,6 @@
--- `record_read::read_terms` meets its contract. The invariant is `ReadSoFar`; the measure is the number of terms left.
-use Prim.Native.Nat.{◌-◌}
+-- `record_read::read_terms` meets its contract. The invariant is `ReadSoFar`.
 use Rattle.record_read.proofs.Terms.{ReadSoFar}
 use Rattle.record_read.proofs.read_terms.Given as goal
 
 abbrev pub invariant-loop-i : goal.invariant-loop-i
 invariant-loop-i l = ReadSoFar l.bytes l.count l.initial.nodes l.nodes l.initial.values l.values l.place.at l.i
-
-abbrev pub decreases-loop-i : goal.decreases-loop-i
-decreases-loop-i l = l.count - l.i

@@ -4,12 +4,10 @@ use mathlib.Core.List.{List, append-nil}
 use Prim.Native.Nat.{ℕ, ◌+◌, ◌-◌, ◌*◌, ◌≤◌}
 use native.Mathlib.Omega.{arith}
 use lib.ListN.{length, drop_of_length-le}
-use lib.Pow.{pow_pos}
 use Rattle.bits.specs.Bits.{bits, bits_of, replaced_at}
 use Rattle.bits.proofs.Fields.{length_bits}
 use Rattle.bits.proofs.Bytes.{length_bits_of}
 use Rattle.record.specs.Record.{version_for, fields_end}
-use Rattle.record.proofs.Ends.{end_bound}
 use Rattle.record.proofs.Fill.{bits_of_zero}
 use Rattle.record_write.specs.Inner.{filled}
 use Rattle.record_write.proofs.put_fill.Goals as goal
@@ -22,28 +20,10 @@ zeros_to_end bytes used inside =
     let as_many : left ≡ length (bits_of bytes) - used = omega (arith, length_bits_of bytes) in
     rw (drop_of_length-le (bits_of bytes) all, append-nil (bits left 0), bits_of_zero left, as_many)
 
-pub overflow_mul-end : goal.overflow_mul-end
-overflow_mul-end c =
-    let start = c in
-    let a = start.args in
-    record { fits = omega (arith, start.requires.just_room, end_bound (version_for a.specials) a.terms a.specials start.requires.counted) }
-
-pub overflow_sub-end : goal.overflow_sub-end
-overflow_sub-end c =
-    let placed : let a = c.args in c.after_fields-place.result.at ≡ fields_end (version_for a.specials) a.terms a.specials = rw c.version_for.ensures at c.after_fields-place.ensures in
-    omega (arith, placed, c.requires.just_room)
-
-pub write-requires : goal.write-requires
-write-requires c =
-    let placed : let a = c.args in c.after_fields-place.result.at ≡ fields_end (version_for a.specials) a.terms a.specials = rw c.version_for.ensures at c.after_fields-place.ensures in
-    let room = c.requires.just_room in
-    record { within = record { narrow = omega (arith, placed, room); inside = omega (arith, placed, room) }; fits = pow_pos _ }
-
 pub returns : goal.returns
 returns c =
-    let placed : let a = c.args in c.after_fields-place.result.at ≡ fields_end (version_for a.specials) a.terms a.specials = rw c.version_for.ensures at c.after_fields-place.ensures in
-    let start = c in
-    let a = start.args in
+    let a = c.args in
     let end = fields_end (version_for a.specials) a.terms a.specials in
-    rw (placed) at c.write.ensures
-    ∙ zeros_to_end a.bytes.now end (omega (arith, start.requires.just_room))
+    let placed : c.after_fields-place.result.at ≡ end = rw c.version_for.ensures at c.after_fields-place.ensures in
+    rw placed at c.write.ensures
+    ∙ zeros_to_end a.bytes.now end (omega (arith, c.requires.just_room))

@@ -10,16 +10,14 @@ use Rattle.record_write.proofs.put_special.Goals as goal
 
 pub returns : goal.returns
 returns c =
-    let start = c in
-    let a = start.args in
+    let a = c.args in
     let special : SpecialSlot = record { slot = a.slot; band = a.band } in
     let before = bits_of a.bytes.now in
     let next = c.after-band_place.ensures in
-    let slot = c.write.ensures in
-    let band = rw (next, slot) at c.write-2.ensures in
+    let band = rw (next, c.write.ensures) at c.write-2.ensures in
     record {
       next_is = omega (arith, c.after.ensures, next);
       bits_are =
           ◌∙◌ {b = rows_replaced special special_layout a.place.at before} band
-          (replaced_by_rows special special_layout a.place.at before (omega (arith, length_bits_of a.bytes.now, start.requires.1.room)));
+          (replaced_by_rows special special_layout a.place.at before (omega (arith, length_bits_of a.bytes.now, c.requires.1.room)));
     }

@@ -5,8 +5,5 @@ use Rattle.synopsis.proofs.write_record.Goals as goal
 
 pub returns : goal.returns
 returns c =
-    let a = c.args in
-    let called = c.write_record_of_parts in
-    let said = rw (to_z-of_z c.ranges.rest, to_z-of_z c.ranges.band) at called.ensures in
-    record_written a.terms.now c.take_apart-parts.result c.take_apart-parts.ensures a.specials.now c.take_specials_apart-special_parts.result c.take_specials_apart-special_parts.ensures
-    a.slots a.band a.rest called.result a.destination.now called.new.destination said
+    let said = rw (to_z-of_z c.ranges.rest, to_z-of_z c.ranges.band) at c.write_record.ensures in
+    record_written c.args.terms.now c.take_apart-count.ensures.together_are c.args.specials.now c.take_apart-special_count.ensures.together_are said

@@ -4,22 +4,14 @@ use Rattle.trace.proofs.AllLevels.{root_fits, root_traced, root_alone, level_fit
 use Rattle.trace.proofs.trace_top.Goals as goal
 
 pub write_term-count-requires : goal.write_term-count-requires
-write_term-count-requires c = let pre = c.requires in root_fits pre.0 pre.1
+write_term-count-requires c = root_fits c.requires.0 c.requires.1
 
 pub trace_children-requires : goal.trace_children-requires
-trace_children-requires c =
-    let root = c in
-    let pre = root.requires in
-    level_fits pre.0 pre.1 1 (omega arith) c.if-height-gt0.true (root_traced pre.0 pre.1 root.write_term-count.ensures)
+trace_children-requires c = level_fits c.requires.0 c.requires.1 1 (omega arith) c.if-height-gt0.true (root_traced c.requires.0 c.requires.1 c.write_term-count.ensures)
 
 pub returns-then-height-gt0 : goal.returns-then-height-gt0
 returns-then-height-gt0 c =
-    let root = c in
-    let pre = root.requires in
-    level_more pre.0 pre.1 1 (omega arith) c.if-height-gt0.true (root_traced pre.0 pre.1 root.write_term-count.ensures) c.trace_children.ensures
+    level_more c.requires.0 c.requires.1 1 (omega arith) c.if-height-gt0.true (root_traced c.requires.0 c.requires.1 c.write_term-count.ensures) c.trace_children.ensures
 
 pub returns-else-height-gt0 : goal.returns-else-height-gt0
-returns-else-height-gt0 c =
-    let root = c in
-    let pre = root.requires in
-    root_alone pre.0 pre.1 root.write_term-count.ensures c.if-height-gt0.false
+returns-else-height-gt0 c = root_alone c.requires.0 c.requires.1 c.write_term-count.ensures c.if-height-gt0.false

@@ -1,7 +1,7 @@
 -- `windows::is_covered` meets its contract. The invariant: no window that was passed holds the value, so those that are left decide.
 use mathlib.Core.Path.{◌≡◌}
 use mathlib.Core.List.{List}
-use Prim.Native.Nat.{ℕ}
+use Prim.Native.Nat.{ℕ, ◌-◌}
 use lib.IntN.{ℤ}
 use Rattle.windows.specs.Windows.{covers, Sorted}
 use Rattle.windows.specs.Scratch.{at, windows_at}
@@ -13,8 +13,5 @@ pub record NotPassed (scratch : List ℤ) (place count value next left : ℕ) : 
   pub same : covers (windows_at (at scratch) place count) value ≡ covers (windows_at (at scratch) next left) value
   pub sorted : Sorted 0 (windows_at (at scratch) next left)
 
-abbrev pub invariant-loop-count : goal.invariant-loop-count
-invariant-loop-count l = NotPassed l.scratch l.initial.place l.initial.count l.value l.place l.count
-
-abbrev pub decreases-loop-count : goal.decreases-loop-count
-decreases-loop-count l = l.count
+abbrev pub invariant-loop : goal.invariant-loop
+invariant-loop l = NotPassed l.scratch l.initial.place l.count l.value l.place (l.count - l.counter)

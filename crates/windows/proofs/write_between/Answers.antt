@@ -4,11 +4,9 @@ use Rattle.windows.proofs.Writing.{one_written, none_written}
 use Rattle.windows.proofs.write_between.Goals as goal
 
 pub returns-then-high-low : goal.returns-then-high-low
-returns-then-high-low c = let a = c.args in rw (lt-leb a.low a.high c.if-high-low.true) (none_written a.scratch.now a.count _)
+returns-then-high-low c = rw (lt-leb c.args.low c.args.high c.if-high-low.true) (none_written c.args.scratch.now c.args.count _)
 
 pub returns : goal.returns
 returns c =
-    let start = c in
-    let a = start.args in
-    rw (c.store-2.ensures, c.store.ensures, le-leb a.low a.high c.if-high-low.false)
-    (one_written a.scratch.now a.count a.low a.high start.requires.0.within start.requires.1 start.requires.2)
+    rw (c.store-2.ensures, c.store.ensures, le-leb c.args.low c.args.high c.if-high-low.false)
+    (one_written c.args.scratch.now c.args.count c.args.low c.args.high c.requires.0.within c.requires.1 c.requires.2)

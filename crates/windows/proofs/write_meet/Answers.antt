@@ -1,55 +1,22 @@
-use native.Mathlib.Omega.{arith}
+use borrow.Author.Rules.{rules}
 use Rattle.windows.proofs.Meeting.{meet_begun, left_ended, right_ended, left_done, right_done}
 use Rattle.windows.proofs.write_meet.Goals as goal
 
-pub loop-lefts-init : goal.loop-lefts-init
-loop-lefts-init c =
-    let a = c.args in meet_begun a.scratch.now a.left a.lefts a.right a.rights c.requires
+pub loop-rest-init : goal.loop-rest-init
+loop-rest-init c = meet_begun
 
-pub returns-then-rights-eq0 : goal.returns-then-rights-eq0
-returns-then-rights-eq0 c =
-    let start = c in
-    let a = start.args in
-    let loop = c.loop-lefts in
-    right_ended a.scratch.now a.left a.lefts a.right a.rights start.requires loop.scratch loop.left loop.lefts loop.right loop.rights loop.count loop.invariant (omega arith)
+pub loop-rest-preserved-then-left_high-right_high : goal.loop-rest-preserved-then-left_high-right_high
+loop-rest-preserved-then-left_high-right_high c =
+    let written = rw (c.max-low.ensures, c.load.ensures.0, c.load-in-loop-rest.ensures.0) at c.write_between-count.ensures in
+    left_done c.loop-rest.invariant c.requires c.loop-rest-test.true c.if-rest-gt0.true _ c.write_between-count.auto.scratch written c.load-left_high.ensures.0 (search rules)
 
-pub write_between-count-requires : goal.write_between-count-requires
-write_between-count-requires c = (record { within = omega arith; small = omega arith }, omega arith, omega arith)
+pub loop-rest-preserved : goal.loop-rest-preserved
+loop-rest-preserved c =
+    let written = rw (c.max-low.ensures, c.load.ensures.0, c.load-in-loop-rest.ensures.0) at c.write_between-count-else-left_high-right_high.ensures in
+    right_done c.loop-rest.invariant c.requires c.loop-rest-test.true c.if-rest-gt0.true _ c.write_between-count-else-left_high-right_high.auto.scratch written c.load-right_high.ensures.0 (search rules)
 
-pub loop-lefts-preserved-then-left_high-right_high : goal.loop-lefts-preserved-then-left_high-right_high
-loop-lefts-preserved-then-left_high-right_high c =
-    let start = c in
-    let a = start.args in
-    let loop = c.loop-lefts in
-    let low = c.greater-low.ensures in
-    let left-low = c.load.ensures.0 in
-    let right-low = c.load-in-loop-lefts.ensures.0 in
-    let left-high = c.load-left_high.ensures.0 in
-    let right-high = c.load-right_high.ensures.0 in
-    left_done a.scratch.now a.left a.lefts a.right a.rights start.requires loop.scratch loop.left loop.lefts loop.right loop.rights loop.count loop.invariant
-    c.loop-lefts-test.true (omega arith) c.write_between-count.new.scratch c.load-left_high.result c.write_between-count.result c.scratch-1.given
-    (rw (low, left-low, right-low) at c.write_between-count.ensures) left-high (omega (arith, left-high, right-high, c.if-left_high-right_high.true))
+pub returns-else-rest-gt0 : goal.returns-else-rest-gt0
+returns-else-rest-gt0 c = right_ended c.loop-rest.invariant c.if-rest-gt0.false
 
-pub write_between-count-requires-else-left_high-right_high : goal.write_between-count-requires-else-left_high-right_high
-write_between-count-requires-else-left_high-right_high c = (record { within = omega arith; small = omega arith }, omega arith, omega arith)
-
-pub loop-lefts-preserved : goal.loop-lefts-preserved
-loop-lefts-preserved c =
-    let start = c in
-    let a = start.args in
-    let loop = c.loop-lefts in
-    let low = c.greater-low.ensures in
-    let left-low = c.load.ensures.0 in
-    let right-low = c.load-in-loop-lefts.ensures.0 in
-    let left-high = c.load-left_high.ensures.0 in
-    let right-high = c.load-right_high.ensures.0 in
-    right_done a.scratch.now a.left a.lefts a.right a.rights start.requires loop.scratch loop.left loop.lefts loop.right loop.rights loop.count loop.invariant
-    c.loop-lefts-test.true (omega arith) c.write_between-count-else-left_high-right_high.new.scratch c.load-right_high.result c.write_between-count-else-left_high-right_high.result c.scratch-else-left_high-right_high-1.given
-    (rw (low, left-low, right-low) at c.write_between-count-else-left_high-right_high.ensures) right-high (omega (arith, left-high, right-high, c.if-left_high-right_high.false))
-
-pub returns : goal.returns
-returns c =
-    let start = c in
-    let a = start.args in
-    let loop = c.loop-lefts in
-    left_ended a.scratch.now a.left a.lefts a.right a.rights start.requires loop.scratch loop.left loop.lefts loop.right loop.rights loop.count loop.invariant c.loop-lefts-test.false
+pub returns-after-loop-rest : goal.returns-after-loop-rest
+returns-after-loop-rest c = left_ended c.loop-rest.invariant c.loop-rest-test.false

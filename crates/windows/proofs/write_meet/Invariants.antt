@@ -3,8 +3,8 @@ use Prim.Native.Nat.{◌+◌}
 use Rattle.windows.proofs.Meeting.{MeetSoFar}
 use Rattle.windows.proofs.write_meet.Given as goal
 
-abbrev pub invariant-loop-lefts : goal.invariant-loop-lefts
-invariant-loop-lefts l = MeetSoFar l.initial.scratch l.initial.left l.initial.lefts l.initial.right l.initial.rights l.scratch l.left l.lefts l.right l.rights l.count
+abbrev pub invariant-loop-rest : goal.invariant-loop-rest
+invariant-loop-rest l = MeetSoFar l.initial.scratch l.initial.rest.left l.initial.rest.lefts l.initial.rest.right l.initial.rest.rights l.scratch l.rest.left l.rest.lefts l.rest.right l.rest.rights l.count
 
-abbrev pub decreases-loop-lefts : goal.decreases-loop-lefts
-decreases-loop-lefts l = l.lefts + l.rights
+abbrev pub decreases-loop-rest : goal.decreases-loop-rest
+decreases-loop-rest l = l.rest.lefts + l.rest.rights

@@ -1,23 +1,12 @@
 -- `bits::BitPlace::write` meets its contract: the word of three bytes that starts in the place's byte, with the field replaced, is stored back.
-use Prim.Native.Nat.{◌/◌}
-use native.Mathlib.Omega.{arith}
+use Rattle.std.proofs.Common.{rules}
 use Rattle.bits.proofs.Numbers.{bytes_below}
-use Rattle.bits.proofs.Words.{word_below, written_by_word}
+use Rattle.bits.proofs.Words.{written_by_word}
 use Rattle.bits.proofs.BitPlace.write.Goals as goal
-
-pub with_field-requires : goal.with_field-requires
-with_field-requires c =
-    let start = c in
-    let bytes = start.args.bytes.now in
-    let below = bytes_below bytes c.slice_known-1.given in
-    let asked = start.requires.within in
-    record { word_fits = rw c.word_at-word.ensures (word_below bytes (start.args.self.at / 8) below); field_fits = omega arith; number_fits = start.requires.fits }
 
 pub returns : goal.returns
 returns c =
-    let start = c in
-    let a = start.args in
-    let bytes = a.bytes.now in
-    let below = bytes_below bytes c.slice_known-1.given in
-    rw (c.put_word.ensures, c.with_field.ensures, c.word_at-word.ensures)
-    (written_by_word bytes a.self.at a.width below start.requires.within.narrow start.requires.within.inside a.number start.requires.fits)
+    let a = c.args in
+    let within = c.requires.within in
+    rw (c.put_word.ensures, c.with_field.ensures, c.from.ensures, c.word_at-word.ensures)
+    (written_by_word a.bytes.now a.self.at a.width (bytes_below a.bytes.now (search rules)) within.narrow within.inside a.number c.requires.fits)

@@ -1,4 +1,4 @@
--- `build::tree::height_over` meets its contract. The invariant: the leaves are what so many doublings have come to. The measure is what they lack of `slots`.
+-- The invariant of `build::tree::height_over`: the leaves are what so many doublings have come to. The measure is what they lack of `slots`.
 use Prim.Native.Nat.{◌-◌}
 use Rattle.histogram.proofs.Doubling.{Doubled}
 use Rattle.build.proofs.tree.height_over.Given as goal

@@ -1,5 +1,5 @@
 -- `decimal::read::read_front` meets its contract: a minus turns the sign of what follows it, and takes a byte.
-use Rattle.std.proofs.Common.{◌≡◌, ℕ, zero, suc, ◌+◌, ◌^◌, ◌<◌, ◌≤◌, true, false, eqb, List, [], ◌∷◌, length, get_or, take, drop, pos, sym, refl, ap, ◌∙◌, add-one, arith, to_z-of_z, w32}
+use Rattle.std.proofs.Common.{◌≡◌, ℕ, zero, suc, ◌+◌, ◌^◌, ◌<◌, ◌≤◌, true, false, eqb, List, [], ◌∷◌, length, get_or, take, drop, pos, refl, ap, ◌∙◌, add-one, arith, rules, to_z-of_z, w32}
 use mathlib.Core.Option.{none}
 use mir.Val.{hbits}
 use mir.ValLaws.{to_z_pos}
@@ -9,14 +9,11 @@ use Rattle.decimal.specs.Number.{leading_digits, unsigned, signed, negated, read
 use Rattle.decimal.specs.Inner.{in_number, FrontRead}
 use Rattle.decimal.proofs.Fronts.{minus_in, not_both}
 use Rattle.decimal.proofs.read.read_front.Goals as goal
+use Rattle.decimal.proofs.read.read_front.Goals.{then-bytes-lt1, else-bytes-lt1+in_default-1}
 
 -- 31 bits have room for a number that is read
 has_room : {number : ℕ} → number ≤ 100000 → number < 2 ^ hbits w32
 has_room small = omega arith
-
-minus_inside : (bytes : List ℕ) → eqb (get_or bytes 0 0) 45 ≡ true → 1 ≤ length bytes
-minus_inside [] a-minus = absurd (not_both 0 (minus_in 0 a-minus) refl)
-minus_inside (byte ∷ bytes) a-minus = omega arith
 
 after_minus : (bytes : List ℕ) (number count : ℕ) → eqb (get_or bytes 0 0) 45 ≡ true → FrontRead unsigned (drop 1 bytes) number count → FrontRead reads_as bytes (negated number) (count + 1)
 after_minus [] number count a-minus front = absurd (not_both 0 (minus_in 0 a-minus) refl)
@@ -50,24 +47,25 @@ no_minus bytes number count not-minus front = record {
   no_other = λ place inside stops other. plain_means bytes place not-minus ∙ ap (signed pos) (front.no_other place inside stops other);
 }
 
-pub slice_bounds-read_unsigned-count : goal.slice_bounds-read_unsigned-count
-slice_bounds-read_unsigned-count c = minus_inside c.args.bytes.now (sym c.begins_with.ensures ∙ c.if-begins_with.true)
+no_byte_no_minus : (bytes : List ℕ) → length bytes < 1 → eqb (get_or bytes 0 0) 45 ≡ false
+no_byte_no_minus [] none_there = refl
+no_byte_no_minus (byte ∷ bytes) none_there = absurd (omega arith)
 
-pub overflow_sub-result : goal.overflow_sub-result
-overflow_sub-result c = negative_fits w32 c.read_unsigned-part.result.number (has_room c.read_unsigned-part.ensures.at_most)
-
-pub returns-then-begins_with : goal.returns-then-begins_with
-returns-then-begins_with c =
+pub returns-in-45 : goal.returns-in-45
+returns-in-45 c =
     let bytes = c.args.bytes.now in
     let part = c.read_unsigned-part in
     let number = part.result.number in
+    let room = has_room part.ensures.at_most in
+    let a-minus : eqb (get_or bytes 0 0) 45 ≡ true = search rules in
     let read = rw (to_end 1 bytes) at part.ensures in
-    let room = has_room read.at_most in
     rw (to_z-of_z (negative_fits w32 number room), negative_is w32 number room)
-    (after_minus bytes number _ (sym c.begins_with.ensures ∙ c.if-begins_with.true) read.front)
+    (after_minus bytes number _ a-minus read.front)
 
 pub returns : goal.returns
 returns c =
     let part = c.read_unsigned-part-2 in
+    let not-minus : eqb (get_or c.args.bytes.now 0 0) 45 ≡ false =
+    elim c.if-bytes-lt1.branch [ then-bytes-lt1 w ↦ search (rules, no_byte_no_minus) | else-bytes-lt1+in_default-1 w ↦ search rules ] in
     rw (to_z_pos w32 part.result.number (has_room part.ensures.at_most))
-    (no_minus c.args.bytes.now _ _ (sym c.begins_with.ensures ∙ c.if-begins_with.false) part.ensures.front)
+    (no_minus c.args.bytes.now _ _ not-minus part.ensures.front)

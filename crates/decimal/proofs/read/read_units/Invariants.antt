@@ -8,13 +8,9 @@ unfoldable pub left : List ℕ → ℕ → List ℕ
 left bytes count = leading_digits (3 - count) (drop count bytes)
 
 pub record SoFar (bytes : List ℕ) (count units : ℕ) : Type 0 where
-  pub few : count ≤ 3
   pub in_field : count ≤ length bytes
   pub counted : length (leading_digits 3 bytes) ≡ count + length (left bytes count)
   pub written : decimal 0 (leading_digits 3 bytes) ≡ decimal units (left bytes count)
 
 abbrev pub invariant-loop-count : goal.invariant-loop-count
 invariant-loop-count l = SoFar l.bytes l.count l.units
-
-abbrev pub decreases-loop-count : goal.decreases-loop-count
-decreases-loop-count l = 3 - l.count

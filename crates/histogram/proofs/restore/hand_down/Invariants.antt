@@ -1,13 +1,6 @@
--- `histogram::restore::hand_down` meets its contract. The invariant, `Handed`: every place below the node holds the value restored there,
-use mathlib.Core.Path.{◌≡◌}
-use Prim.Native.Nat.{◌-◌}
-use lib.ListN.{length}
+-- `histogram::restore::hand_down` meets its contract. The invariant, `Handed`: every place below the node holds the value restored there.
 use Rattle.histogram.proofs.Handing.{Handed}
 use Rattle.histogram.proofs.restore.hand_down.Given as goal
 
 abbrev pub invariant-loop-node : goal.invariant-loop-node
-invariant-loop-node l =
-    Handed l.rest l.nodes l.values l.end l.initial.restored l.restored l.next l.node × (length l.restored ≡ length l.initial.restored)
-
-abbrev pub decreases-loop-node : goal.decreases-loop-node
-decreases-loop-node l = l.end - l.node
+invariant-loop-node l = Handed l.rest l.nodes l.values l.end l.initial.restored l.restored l.next l.node

@@ -1,65 +1,28 @@
-use mathlib.Core.Path.{◌≡◌, sym, ap, ◌∙◌}
-use Prim.Native.Nat.{ℕ, suc, ◌-◌, ◌/◌}
-use native.Mathlib.Omega.{arith}
-use native.Mathlib.Numerals.{add-one}
-use lib.IntN.{pos}
-use lib.ListN.{get_or}
-use mir.Syntax.{w16}
-use mir.Val.{to_z, of_z}
-use mir.Facts.{to_z-of_z}
-use Rattle.limits.proofs.Signed.{element}
-use Rattle.histogram.specs.Tree.{level_of}
-use Rattle.histogram.specs.Terms.{paired, term_or}
-use Rattle.histogram.specs.Restored.{restored, restored_at}
-use Rattle.histogram.proofs.Above.{path_of_node, one_step_up}
-use Rattle.histogram.proofs.Lookup.{found_term, found_none}
-use Rattle.histogram.proofs.Powers.{level_bound, level_in_tree}
+use Rattle.std.proofs.Common.{rules, arith, ◌≡◌, ap, ℕ, ◌+◌, ◌-◌, to_z, of_z, w16}
+use Rattle.histogram.specs.Terms.{paired}
+use Rattle.histogram.specs.Restored.{restored, path_nodes}
+use Rattle.histogram.proofs.Above.{path_of_node}
+use Rattle.histogram.proofs.Lookup.{way_ends, way_goes_on}
+use Rattle.histogram.proofs.Powers.{level_in_tree}
 use Rattle.histogram.proofs.restore.restore_node.Goals as goal
 
-pub overflow_add-left : goal.overflow_add-left
-overflow_add-left c =
-    let level_is : c.level-left.result ≡ level_of c.args.node = c.level-left.ensures ∙ level_in_tree c.requires.in_tree in
-    let pre = c.requires in omega (arith, level_is, level_bound pre.from_root pre.in_tree)
+pub loop-init : goal.loop-init
+loop-init c =
+    let whole_way : path_nodes c.args.node ≡ c.level-end.result + 1 - 0 = omega (arith, path_of_node c.args.node c.requires.from_root, level_in_tree c.requires.in_tree) in
+    ap (λ (count : ℕ). restored (to_z w16 (of_z w16 c.args.rest)) (paired c.args.nodes.now c.args.values.now) count c.args.node) whole_way
 
-pub loop-left-init : goal.loop-left-init
-loop-left-init c =
-    let level_is : c.level-left.result ≡ level_of c.args.node = c.level-left.ensures ∙ level_in_tree c.requires.in_tree in
-    let start = c in
-    let args = start.args in
-    let whole-way = path_of_node args.node start.requires.from_root ∙ ap suc (sym (level_is)) ∙ sym (add-one c.level-left.result) in
-    ap (λ (count : ℕ). restored (to_z w16 (of_z w16 args.rest)) (paired args.nodes.now args.values.now) count args.node) whole-way
+pub returns-in-Some : goal.returns-in-Some
+returns-in-Some c =
+    let value_is = way_ends _ c.args.nodes.now c.args.values.now c.args.node c.requires.same_length (omega arith) c.loop.invariant (c.in-Some.ensures) in
+    search rules
 
-pub returns-then-place-nodes : goal.returns-then-place-nodes
-returns-then-place-nodes c =
-    let turn : let args = c.args in let loop = c.loop-left in let terms = paired args.nodes.now args.values.now in restored_at args.rest terms args.node ≡ term_or (restored args.rest terms (loop.left - 1) (loop.above / 2)) terms loop.above = let start = c in
-    let args = start.args in
-    let loop = c.loop-left in
-    let terms = paired args.nodes.now args.values.now in
-    (rw (to_z-of_z start.ranges.rest) at loop.invariant) ∙ one_step_up args.rest terms loop.left loop.above c.loop-left-test.true in
-    let found = c in
-    let start = found in
-    let nodes = start.args.nodes.now in
-    let values = start.args.values.now in
-    rw (element (get_or values found.find-place.result (pos 0)) c.result-1.given)
-    (sym (turn ∙ found_term nodes values start.requires.same_length _ found.find-place.ensures c.if-place-nodes.true))
+pub loop-preserved : goal.loop-preserved
+loop-preserved c =
+    let so_far = way_goes_on _ c.args.nodes.now c.args.values.now c.args.node c.requires.same_length (omega arith) c.loop.invariant (c.in_default.ensures) in
+    search rules
 
-pub loop-left-preserved : goal.loop-left-preserved
-loop-left-preserved c =
-    let turn : let args = c.args in let loop = c.loop-left in let terms = paired args.nodes.now args.values.now in restored_at args.rest terms args.node ≡ term_or (restored args.rest terms (loop.left - 1) (loop.above / 2)) terms loop.above = let start = c in
-    let args = start.args in
-    let loop = c.loop-left in
-    let terms = paired args.nodes.now args.values.now in
-    (rw (to_z-of_z start.ranges.rest) at loop.invariant) ∙ one_step_up args.rest terms loop.left loop.above c.loop-left-test.true in
-    let found = c in
-    let start = found in
-    let nodes = start.args.nodes.now in
-    let values = start.args.values.now in
-    rw (to_z-of_z start.ranges.rest) (turn ∙ found_none nodes values start.requires.same_length _ found.find-place.ensures c.if-place-nodes.false)
-
-pub returns : goal.returns
+pub returns-in_default : goal.returns-in_default
 unfolding restored
-returns c =
-    let start = c in
-    let loop = c.loop-left in
-    let none : loop.left ≡ 0 = omega arith in
-    rw (to_z-of_z start.ranges.rest) (sym (rw (to_z-of_z start.ranges.rest, none) at loop.invariant))
+returns-in_default c =
+    let so_far = way_goes_on _ c.args.nodes.now c.args.values.now c.args.node c.requires.same_length (omega arith) c.loop.invariant (c.in_default.ensures) in
+    search rules

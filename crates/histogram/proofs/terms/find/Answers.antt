@@ -4,9 +4,10 @@ use mathlib.Core.List.{List}
 use Prim.Native.Nat.{ℕ, ◌+◌, ◌≤◌, ◌<◌}
 use native.Mathlib.Omega.{arith}
 use lib.ListN.{length, get_or}
-use Rattle.histogram.specs.Inner.{Ascending, Found}
-use Rattle.histogram.proofs.Order.{below_or_not}
+use Rattle.std.proofs.lemmas.Bool.{cases_lt}
+use Rattle.histogram.specs.Inner.{Ascending, FirstPlace, Nowhere}
 use Rattle.histogram.proofs.terms.find.Goals as goal
+use Rattle.histogram.proofs.terms.find.Goals.{else-low-nodes-via-then-low-nodes+else-nodes-low, else-low-nodes-via-else-low-nodes}
 use Rattle.histogram.proofs.terms.find.Invariants.{Between}
 
 -- an earlier place, or the same, has no greater node
@@ -15,7 +16,7 @@ no_greater {nodes} ascending p q p-to-q q-within =
     ⊎_elim
     (λ less. omega (arith, ascending.each p q less q-within))
     (λ more. let same : p ≡ q = omega arith in omega (arith, ap (λ (k : ℕ). get_or nodes k 0) same))
-    (below_or_not p q)
+    (cases_lt p q)
 
 module _ {nodes : List ℕ} {node low high : ℕ} (ascending : Ascending nodes) (between : Between nodes node low high) (middle : ℕ) (from_low : low ≤ middle) (to_high : middle < high) where
   upper_half : get_or nodes middle 0 < node → Between nodes node (middle + 1) high
@@ -35,27 +36,25 @@ module _ {nodes : List ℕ} {node low high : ℕ} (ascending : Ascending nodes) 
   }
 
 module _ {nodes : List ℕ} {node low high : ℕ} (between : Between nodes node low high) (met : high ≤ low) where
-  found_there : low < length nodes → get_or nodes low 0 ≡ node → Found nodes node low
+  found_there : low < length nodes → get_or nodes low 0 ≡ node → FirstPlace nodes node low
   found_there low-within same = record {
-    within = omega arith;
+    within = low-within;
+    there = same;
     not_before = λ k k-before k-same. omega (arith, between.below k k-before);
-    there = λ _. same;
   }
 
   -- the nodes after `low` are greater than the one there, which is not below the node sought
-  found_nowhere : Ascending nodes → (low < length nodes → get_or nodes low 0 ≡ node → ⊥) → Found nodes node (length nodes)
+  found_nowhere : Ascending nodes → (low < length nodes → get_or nodes low 0 ≡ node → ⊥) → Nowhere nodes node
   found_nowhere ascending not_there = record {
-    within = omega arith;
-    not_before = λ k k-within k-same.
+    nowhere = λ k k-within k-same.
         ⊎_elim
         (λ before. omega (arith, between.below k before))
         (λ from.
         ⊎_elim
         (λ past. omega (arith, between.not_below low met (omega arith), ascending.each low k past k-within))
         (λ upto. let same : k ≡ low = omega arith in not_there (omega arith) (sym (ap (λ (p : ℕ). get_or nodes p 0) same) ∙ k-same))
-        (below_or_not low k))
-        (below_or_not k low);
-    there = λ past. absurd (omega arith);
+        (cases_lt low k))
+        (cases_lt k low);
   }
 
 pub loop-low-init : goal.loop-low-init
@@ -76,12 +75,12 @@ returns-then-nodes-low c =
     let after-loop = c in
     found_there after-loop.loop-low.invariant after-loop.loop-low-test.false c.if-low-nodes.true c.if-nodes-low.true
 
-pub returns-else-nodes-low : goal.returns-else-nodes-low
-returns-else-nodes-low c =
-    let after-loop = c in
-    found_nowhere after-loop.loop-low.invariant after-loop.loop-low-test.false after-loop.requires (λ _. c.if-nodes-low.false)
-
 pub returns-else-low-nodes : goal.returns-else-low-nodes
-returns-else-low-nodes c =
-    let after-loop = c in
-    found_nowhere after-loop.loop-low.invariant after-loop.loop-low-test.false after-loop.requires (λ within _. omega arith)
+returns-else-low-nodes c = found_nowhere c.loop-low.invariant c.loop-low-test.false c.requires not_there
+  where
+    not_there : c.loop-low.low < length c.args.nodes.now → get_or c.args.nodes.now c.loop-low.low 0 ≡ c.args.node → ⊥
+    not_there within same =
+        elim c.else-low-nodes.branch [
+          | else-low-nodes-via-then-low-nodes+else-nodes-low other ↦ other.if-nodes-low.false same
+          | else-low-nodes-via-else-low-nodes past ↦ omega (arith, past.if-low-nodes.false, within)
+        ]

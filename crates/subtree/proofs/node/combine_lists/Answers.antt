@@ -5,27 +5,11 @@ use Rattle.subtree.proofs.node.combine_lists.Goals as goal
 
 pub write_header-requires-else-rest-eq0 : goal.write_header-requires-else-rest-eq0
 write_header-requires-else-rest-eq0 c =
-    let start = c in
-    let a = start.args in
-    let joined = c.write_join-rest in
-    let rest = joined.result in
-    let met = c.write_meet-count in
-    let few = count_few a.scratch.now joined.new.scratch a.numbers a.left a.lefts a.right a.rights start.requires.0.placed rest.left rest.lefts rest.right rest.rights joined.ensures met.new.scratch met.result met.ensures in
+    let few = count_few c.args.numbers c.requires.0.placed c.write_join-rest.ensures c.write_meet-count.ensures in
     (omega arith, omega arith, omega arith)
 
 pub returns-then-rest-eq0 : goal.returns-then-rest-eq0
-returns-then-rest-eq0 c =
-    let start = c in
-    let a = start.args in
-    let joined = c.write_join-rest in
-    let rest = joined.result in
-    combined_apart a.scratch.now joined.new.scratch a.numbers a.left a.lefts a.right a.rights start.requires.0.placed rest.left rest.lefts rest.right rest.rights joined.ensures c.write_header.new.scratch (omega arith) c.write_header.ensures
+returns-then-rest-eq0 c = combined_apart c.args.numbers c.requires.0.placed c.write_join-rest.ensures c.if-rest-eq0.true c.write_header.ensures
 
 pub returns-else-rest-eq0 : goal.returns-else-rest-eq0
-returns-else-rest-eq0 c =
-    let start = c in
-    let a = start.args in
-    let joined = c.write_join-rest in
-    let rest = joined.result in
-    let met = c.write_meet-count in
-    combined_meeting a.scratch.now joined.new.scratch a.numbers a.left a.lefts a.right a.rights start.requires.0.placed rest.left rest.lefts rest.right rest.rights joined.ensures met.new.scratch met.result met.ensures c.write_header-else-rest-eq0.new.scratch (omega arith) c.write_header-else-rest-eq0.ensures
+returns-else-rest-eq0 c = combined_meeting c.args.numbers c.requires.0.placed c.write_join-rest.ensures c.write_meet-count.ensures (omega arith) c.write_header-else-rest-eq0.ensures
