@@ -1,4 +1,5 @@
--- Terms and special slots as pairs.
+-- Terms and special slots as pairs. A reader of the promises need not open this file.
+-- The laws stand here with their proofs, since an impl of the trait may cite nothing else of its crate.
 use Rattle.std.specs.Prelude.{◌≡◌, List, [], ◌∷◌, ℕ, ℤ, refl}
 use Rattle.std.proofs.Common.{ap}
 use Rattle.bands.specs.Bands.{special_slots}
