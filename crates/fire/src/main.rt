@@ -8,9 +8,8 @@ ghost use Rattle.build.specs.Inner.{KnownProfile};
 use build::build_first;
 use decimal::write::write_number;
 use histogram::restore::restore_profile;
-use printing::{print, print_count};
+use printing::{print, print_count, print_refused};
 use profile::{TextNumbers, read_text};
-use refusals::Refusal;
 use std::io;
 use std::io::{Read, Write};
 
@@ -96,10 +95,6 @@ fn print_synopsis(
 {
     print_terms(out, nodes, values)?;
     print_slots(out, slots, rest, nodes, values)
-}
-
-fn print_refused(out: &mut impl Write, refusal: Refusal) -> io::Result<()> {
-    writeln!(out, "refused {refusal}")
 }
 
 fn print_summary(

@@ -1,6 +1,12 @@
--- What is printed of setpoints, terms, special slots and bytes, byte for byte. A whole number is printed as std writes it: `decimal`, and with a sign `signed_decimal`.
+-- What is printed of refusals, setpoints, terms, special slots and bytes, byte for byte. A whole number is printed as std writes it: `decimal`, and with a sign `signed_decimal`.
 use Rattle.std.specs.Prelude.{ℕ, ◌^◌, ◌-◌, false, List, [], ◌++◌, ℤ, codes}
 use Rattle.std.specs.Fmt.{decimal, signed_decimal, digits, padded_integral, format_spec}
+use Rattle.refusals.specs.declared.Refusal.{Refusal}
+use Rattle.refusals.specs.Rows.{row}
+
+-- the line of a text that is turned away: `refused`, a space, its number, and byte 10
+abbrev pub refused_text : Refusal → List ℕ
+refused_text refusal = codes "refused " ++ decimal (row refusal) ++ codes "\n"
 
 -- a setpoint after a space
 abbrev pub setpoint_text : ℤ → List ℕ

@@ -1,7 +1,8 @@
 // What the panel turns away: the rows of document 01's table and of document 02's, under the names that panel.h gives them.
 #![tactic(auto)]
 
-ghost use Rattle.std.specs.Prelude.{◌≡◌};
+ghost use Rattle.std.specs.Prelude.{◌≡◌, Some};
+ghost use Rattle.std.specs.Fmt.{decimal};
 ghost use Rattle.refusals.specs.Rows.{row};
 
 use std::error::Error;
@@ -37,6 +38,8 @@ impl Refusal {
 
 // A refusal prints as its row's number.
 impl fmt::Display for Refusal {
+    ghost output = { λ refusal. Some (decimal (row refusal)) };
+
     fn fmt<W: fmt::Write>(&self, f: &mut fmt::Formatter<W>) -> fmt::Result {
         write!(f, "{}", self.row())
     }
