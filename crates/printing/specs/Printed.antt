@@ -4,9 +4,9 @@ use Rattle.std.specs.Fmt.{decimal, signed_decimal, digits, padded_integral, form
 use Rattle.refusals.specs.declared.Refusal.{Refusal}
 use Rattle.refusals.specs.Rows.{row}
 
--- the line of a text that is turned away: `refused`, a space, its number, and byte 10
-abbrev pub refused_text : Refusal → List ℕ
-refused_text refusal = codes "refused " ++ decimal (row refusal) ++ codes "\n"
+-- the line of a text that is turned away: `refused`, a space, the number of the refusal, and byte 10
+abbrev pub refusal_text : Refusal → List ℕ
+refusal_text refusal = codes "refused " ++ decimal (row refusal) ++ codes "\n"
 
 -- a setpoint after a space
 abbrev pub setpoint_text : ℤ → List ℕ

@@ -7,7 +7,7 @@ ghost use Rattle.std.specs.List.{flat_map};
 ghost use Rattle.std.specs.Fmt.{decimal, signed_decimal};
 ghost use Rattle.std.specs.Io.KnownBytes.{Appends};
 ghost use Rattle.refusals.specs.Answers.{refused_with};
-ghost use Rattle.printing.specs.Printed.{refused_text, setpoint_text, term_text, special_text, byte_text};
+ghost use Rattle.printing.specs.Printed.{refusal_text, setpoint_text, term_text, special_text, byte_text};
 
 use refusals::Refusal;
 use std::io;
@@ -80,7 +80,7 @@ pub fn print_outcome<W: Write, T>(out: &mut W, answer: &Result<T, Refusal>) -> i
 
 // Prints the line of a text that is turned away.
 pub fn print_refused<W: Write>(out: &mut W, refusal: Refusal) -> io::Result<()>
-    ensures { OnOk result (Appends (W.contents out.old) (W.contents out.new) (refused_text refusal)) }
+    ensures { OnOk result (Appends (W.contents out.old) (W.contents out.new) (refusal_text refusal)) }
 {
     writeln!(out, "refused {refusal}")
 }
